@@ -1,0 +1,2 @@
+// Rules 1 to 4 as C functions, so that a Rust program can hold each to the original.
+pub mod entries;

@@ -1,0 +1,32 @@
+-- `words::error::error_words` meets its contract.
+use mathlib.Core.Path.{sym, _∙_}
+use Prim.Native.Nat.{_<_}
+use Rattle.words.proofs.Laws.{error-coded}
+use borrow.Author.Needs.{needs}
+use Rattle.words.proofs.error.error_words.Statement.{statement}
+use Rattle.words.proofs.error.error_words.Tie as tie
+
+enum-told : tie.Need-enum-told
+enum-told c = search needs
+
+enum-known-e : tie.Need-enum-known-e
+enum-known-e c = search needs
+
+kind-word-requires : tie.Need-kind-word-requires
+kind-word-requires c κs = search needs
+
+cast-message : tie.Need-cast-message
+cast-message c = search needs
+
+returns : tie.Need-returns
+returns c = search needs
+
+returns-2 : tie.Need-returns-2
+returns-2 c =
+    let x = c .before .before .before .e .given .0 .0 in
+    let small : x .message < 0x1_0000_0000 = search needs in
+    error-coded x (c .before .kind-word .result) (c .before .kind-word .ensures .0) (c .before .kind-word .ensures .1) small ∙ sym (c .before .before .before .e .given .1)
+
+pub error-words-spec : {M : Type 1} → statement M
+error-words-spec =
+    tie.close (tie.spec enum-told enum-known-e kind-word-requires cast-message returns returns-2)
