@@ -1,0 +1,65 @@
+-- Invariant: the bytes from the start are digits exactly if those from i on are.
+use mathlib.Core.Path.{_≡_, refl, sym, _∙_}
+use Prim.Native.Nat.{_-_}
+use native.Mathlib.Omega.{arith}
+use borrow.Author.Tests.{le-leb, lt-leb}
+use lib.ListN.{length, drop}
+use Rattle.names.specs.Bits.{allDigits}
+use Rattle.names.proofs.Loops.{digits-more, digits-end}
+use borrow.Author.Needs.{needs}
+use Rattle.names.proofs.bits.digits_from.Statement.{statement}
+use Rattle.names.proofs.bits.digits_from.Tie as tie
+
+abbrev Inv-loop : tie.InvT-loop
+Inv-loop s from i₀ i = allDigits (drop from s) ≡ allDigits (drop i s)
+
+abbrev μ-loop : tie.MeasureT-loop
+μ-loop s from i₀ i = length s - i
+
+loop-holds : tie.Need-loop-holds Inv-loop μ-loop
+loop-holds c = refl
+
+shared-slice-read-b : tie.Need-shared-slice-read-b Inv-loop μ-loop
+shared-slice-read-b c = search needs
+
+returns : tie.Need-returns Inv-loop μ-loop
+returns c =
+    let s = c .before .before .before .before .args .s .now in
+    let loop = c .before .before .before .loop in
+    sym (loop .inv ∙ digits-more s (loop .i) (omega arith) ∙ simp (lt-leb _ _ (c .if1 .taken)))
+
+returns-2 : tie.Need-returns-2 Inv-loop μ-loop
+returns-2 c =
+    let s = c .before .before .before .before .before .args .s .now in
+    let loop = c .before .before .before .before .loop in
+    sym (loop .inv ∙ digits-more s (loop .i) (omega arith) ∙ simp (le-leb _ _ (c .before .if1 .left), lt-leb _ _ (c .if2 .taken)))
+
+add-i : tie.Need-add-i Inv-loop μ-loop
+add-i c = search needs
+
+loop-less : tie.Need-loop-less Inv-loop μ-loop
+loop-less c = search needs
+
+loop-again : tie.Need-loop-again Inv-loop μ-loop
+loop-again c =
+    let s = c .before .before .before .before .before .args .s .now in
+    let loop = c .before .before .before .before .loop in
+    loop .inv ∙ digits-more s (loop .i) (omega arith) ∙ simp (le-leb _ _ (c .before .if1 .left), le-leb _ _ (c .if2 .left))
+
+returns-3 : tie.Need-returns-3 Inv-loop μ-loop
+returns-3 c = sym (c .before .loop .inv ∙ digits-end (c .before .before .args .s .now) (c .before .loop .i) (c .loop-test .left))
+
+pub digits-from-spec : {M : Type 1} → statement M
+digits-from-spec =
+    tie.close
+    (tie.spec
+    Inv-loop
+    μ-loop
+    loop-holds
+    shared-slice-read-b
+    returns
+    returns-2
+    add-i
+    loop-less
+    loop-again
+    returns-3)

@@ -1,0 +1,4 @@
+pub mod Order
+pub mod Bits
+pub mod Directory
+pub mod Keys
