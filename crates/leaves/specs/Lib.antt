@@ -1,1 +1,3 @@
+-- What the C functions answer.
+pub mod Directories
 pub mod Entries
