@@ -1,0 +1,2 @@
+-- Laws of groups in memory.
+pub mod Laws

@@ -1,0 +1,8 @@
+-- For callers: `RowLaws` (rows, and rows as a decoder reads them), `ListLaws` (lists of tag numbers), `LoopLaws` (loops that fill,
+-- collect or replace). Below them: `BlockLaws`, `CellLaws`, `HalfLaws`.
+pub mod BlockLaws
+pub mod CellLaws
+pub mod HalfLaws
+pub mod ListLaws
+pub mod LoopLaws
+pub mod RowLaws

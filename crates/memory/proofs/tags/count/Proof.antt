@@ -1,0 +1,25 @@
+-- `memory::tags::count` meets its contract.
+use native.Mathlib.Omega.{arith}
+use denote.Ref.{now}
+use Rattle.memory.proofs.ListLaws.{length-list}
+use borrow.Author.Needs.{needs}
+use Rattle.memory.proofs.tags.count.Statement.{statement}
+use Rattle.memory.proofs.tags.count.Tie as tie
+
+half-requires : tie.Need-half-requires
+half-requires c κs = search needs
+
+returns : tie.Need-returns
+returns c = omega (arith, length-list (now (c .before .before .before .args .s)))
+
+returns-2 : tie.Need-returns-2
+returns-2 c = omega (arith, length-list (now (c .before .before .before .before .args .s)))
+
+sub-result : tie.Need-sub-result
+sub-result c = search needs
+
+returns-3 : tie.Need-returns-3
+returns-3 c = omega (arith, length-list (now (c .before .before .before .before .args .s)))
+
+pub count-spec : {M : Type 1} → statement M
+count-spec = tie.close (tie.spec half-requires returns returns-2 sub-result returns-3)

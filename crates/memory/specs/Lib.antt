@@ -1,0 +1,5 @@
+-- What lent memory holds. Definitions only.
+pub mod Blocks
+pub mod Cells
+pub mod Halves
+pub mod Lists

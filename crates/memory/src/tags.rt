@@ -1,0 +1,118 @@
+// Lists of tag numbers in halves: the count, then the places. Any bytes are some list.
+ghost use mathlib.Core.Path.{_≡_};
+ghost use mathlib.Core.List.{[]};
+ghost use Prim.Native.Nat.{_%_};
+ghost use lib.ListN.{length, getD};
+ghost use Rattle.lists.specs.Keep.{without};
+ghost use Rattle.memory.specs.Lists.{listIn, room, pushed, insertedAt, member};
+use crate::bytes;
+use crate::halves;
+
+// The stored count; where that is above the places there are, all of them.
+pub fn count(s: &[u8]) -> usize
+    ensures { λ r. ⌜ r ≡ length (listIn (now (s .entry))) ⌝ }
+{
+    let size = s.len() / 2;
+    let n = halves::half(s, 0);
+    if n < size {
+        return n;
+    }
+    if size == 0 {
+        return 0;
+    }
+    size - 1
+}
+
+// How many tags the slice has room for; the count has to fit its half too.
+pub fn room_of(s: &[u8]) -> usize
+    ensures { λ r. ⌜ r ≡ room (now (s .entry)) ⌝ }
+{
+    let size = s.len() / 2;
+    if size == 0 {
+        return 0;
+    }
+    if size - 1 < 65535 {
+        return size - 1;
+    }
+    65535
+}
+
+pub fn at(s: &[u8], i: usize) -> usize
+    ensures { λ r. ⌜ r ≡ getD (listIn (now (s .entry))) i 0 ⌝ }
+{
+    if i < count(s) {
+        return halves::half(s, i + 1);
+    }
+    0
+}
+
+pub fn clear(s: &mut [u8])
+    ensures { λ _. ⌜ listIn (now (s .exit)) ≡ [] ⌝ }
+{
+    halves::put_half(s, 0, 0);
+}
+
+// One tag more at the end; a full list stays.
+pub fn push(s: &mut [u8], k: usize)
+    ensures { λ _. ⌜ listIn (now (s .exit)) ≡ pushed (room (now (s .entry))) (listIn (now (s .entry))) (k % 65536) ⌝ }
+{
+    let n = count(s);
+    if n < room_of(s) {
+        halves::put_half(s, n + 1, k);
+        halves::put_half(s, 0, n + 1);
+    }
+}
+
+pub fn contains(s: &[u8], k: usize) -> bool
+    ensures { λ r. ⌜ r ≡ member k (listIn (now (s .entry))) ⌝ }
+{
+    let n = count(s);
+    let mut i: usize = 0;
+    while i < n {
+        if bytes::half(s, i + 1) == k {
+            return true;
+        }
+        i += 1;
+    }
+    false
+}
+
+// The others keep their order and move down: place j takes the next one that stays.
+pub fn remove(s: &mut [u8], k: usize)
+    ensures { λ _. ⌜ listIn (now (s .exit)) ≡ without k (listIn (now (s .entry))) ⌝ }
+{
+    let n = count(s);
+    let mut j: usize = 0;
+    let mut i: usize = 0;
+    while i < n {
+        let x = bytes::half(s, i + 1);
+        if x != k {
+            bytes::put_half(s, j + 1, x);
+            j += 1;
+        }
+        i += 1;
+    }
+    halves::put_half(s, 0, j);
+}
+
+// One tag more at place p: those from p on move up, the last first. A full list stays, and so does one
+// that ends before p.
+pub fn insert_at(s: &mut [u8], p: usize, k: usize)
+    ensures { λ _. ⌜ listIn (now (s .exit)) ≡ insertedAt (room (now (s .entry))) p (k % 65536) (listIn (now (s .entry))) ⌝ }
+{
+    let n = count(s);
+    if n < p {
+        return;
+    }
+    if room_of(s) <= n {
+        return;
+    }
+    let mut i = n;
+    while p < i {
+        let x = bytes::half(s, i);
+        bytes::put_half(s, i + 1, x);
+        i -= 1;
+    }
+    bytes::put_half(s, p + 1, k);
+    bytes::put_half(s, 0, n + 1);
+}

@@ -1,0 +1,3 @@
+-- Laws of tags and of the table in memory.
+pub mod Laws
+pub mod RowLaws

@@ -1,0 +1,64 @@
+-- The table in terms of its rows, and what one cell of a row changes in its tag.
+use mathlib.Core.Path.{_≡_, refl, ap, sym, _∙_, subst}
+use mathlib.Core.List.{List, [], _∷_, map}
+use Prim.Native.Nat.{ℕ, zero, suc}
+use native.Mathlib.Omega.{arith}
+use lib.Dec.{ltb}
+use lib.Ieee.{binary64, ofBits}
+use lib.ListN.{length, getD, set, drop}
+use Rattle.memory.specs.Cells.{rowsIn, noRow}
+use Rattle.memory.proofs.RowLaws.{map-at, map-set, row-long}
+use Rattle.table.specs.Tag.{freshTag}
+use Rattle.table.specs.Row.{tagFrom}
+use Rattle.table.specs.Table.{tableIn, withLast, withAdded}
+use Rattle.table.specs.declared.tag.Tag.{Tag}
+
+-- a row of zeros is a fresh tag
+fresh-row : tagFrom noRow ≡ freshTag
+unfolding tagFrom
+fresh-row = refl
+
+pub table-at : (bs : List ℕ) (k : ℕ) → getD (tableIn bs) k freshTag ≡ tagFrom (getD (rowsIn bs) k noRow)
+unfolding tableIn
+table-at bs k = ap (getD (map tagFrom (rowsIn bs)) k) (sym fresh-row) ∙ map-at tagFrom (rowsIn bs) k noRow
+
+pub table-put : (old new w : List ℕ) (k : ℕ) → rowsIn new ≡ set (rowsIn old) k w → tableIn new ≡ set (tableIn old) k (tagFrom w)
+unfolding tableIn
+table-put old new w k e = ap (map tagFrom) e ∙ map-set tagFrom (rowsIn old) k w
+
+-- an element replaced twice, the second time by what the first made of it
+set-again : {A : Type 0} (f : A → A) (l : List A) (k : ℕ) (a d : A) → set (set l k a) k (f (getD (set l k a) k d)) ≡ set l k (f a)
+set-again f [] k a d = refl
+set-again f (x ∷ l) zero a d = refl
+set-again f (x ∷ l) (suc k) a d = ap (λ (r : List _). x ∷ r) (set-again f l k a d)
+
+-- ---- a row, written out
+
+spread : ℕ → List ℕ → List ℕ
+spread zero w = []
+spread (suc n) w = getD w 0 0 ∷ spread n (drop 1 w)
+
+spread-is : (n : ℕ) (w : List ℕ) → length w ≡ n → spread n w ≡ w
+unfolding spread
+spread-is zero [] h = refl
+spread-is zero (x ∷ w) h = absurd (let z : _≡_ {A = ℕ} 0 1 = cc in omega arith)
+spread-is (suc n) [] h = absurd (let z : _≡_ {A = ℕ} 0 1 = cc in omega arith)
+spread-is (suc n) (x ∷ w) h = ap (λ (r : List ℕ). x ∷ r) (spread-is n w (omega arith))
+
+module _ (w : List ℕ) (h : length w ≡ 32) where
+  pub added-put : (v : ℕ) → tagFrom (set w 8 v) ≡ withAdded (tagFrom w) (ltb 0 v)
+  unfolding tagFrom spread
+  added-put v = subst (λ (r : List ℕ). tagFrom (set r 8 v) ≡ withAdded (tagFrom r) (ltb 0 v)) (spread-is 32 w h) refl
+
+  pub last-put : (v : ℕ) → tagFrom (set (set w 4 1) 5 v) ≡ withLast (tagFrom w) (ofBits binary64 v)
+  unfolding tagFrom spread
+  last-put v = subst (λ (r : List ℕ). tagFrom (set (set r 4 1) 5 v) ≡ withLast (tagFrom r) (ofBits binary64 v)) (spread-is 32 w h) refl
+
+-- two cells of one row put, one after the other
+pub rows-put-2 : (old mid new : List ℕ) (k i u j v : ℕ)
+    → rowsIn mid ≡ set (rowsIn old) k (set (getD (rowsIn old) k noRow) i u)
+    → rowsIn new ≡ set (rowsIn mid) k (set (getD (rowsIn mid) k noRow) j v)
+    → rowsIn new ≡ set (rowsIn old) k (set (set (getD (rowsIn old) k noRow) i u) j v)
+rows-put-2 old mid new k i u j v e f =
+    f ∙ ap (λ (rs : List (List ℕ)). set rs k (set (getD rs k noRow) j v)) e
+    ∙ set-again (λ (r : List ℕ). set r j v) (rowsIn old) k (set (getD (rowsIn old) k noRow) i u) noRow

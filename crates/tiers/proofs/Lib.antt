@@ -1,0 +1,2 @@
+-- Laws of rule 5.
+pub mod Laws

@@ -1,0 +1,114 @@
+-- Rule 5: tiers.
+use mathlib.Core.Bool.{Bool, true, false, not, _&&_, _||_, cond}
+use mathlib.Core.List.{List, [], _∷_, _++_}
+use Prim.Native.Nat.{ℕ}
+use lib.Dec.{eqb}
+use lib.Ieee.{Float, binary64, add, le}
+use lib.ListN.{getD, set}
+use Rattle.lists.specs.Keep.{without}
+use Rattle.memory.specs.Halves.{halvesIn}
+use Rattle.memory.specs.Lists.{listIn, room, pushed}
+use Rattle.values.specs.declared.entry.Held.{Held}
+use Rattle.values.specs.declared.entry.Held.the-variants.{None}
+use Rattle.table.specs.Tag.{f0, noGrace, noTiming, freshTag}
+use Rattle.table.specs.Table.{tableIn, withGrace}
+use Rattle.table.specs.declared.tag.Grace.{Grace}
+use Rattle.table.specs.declared.tag.Timing.{Timing}
+use Rattle.table.specs.declared.tag.Tag.{Tag}
+
+-- The table: a record for each tag of the directory, the tags in tiers in their order of entry, and the tags in grace in the order of their graces.
+-- `orderRoom` and `graceRoom` are how many tags the two lists can hold. `words` has 0 for a tag that is no bit.
+pub record Table : Type 0 where
+  pub tags : List Tag
+  pub order : List ℕ
+  pub graces : List ℕ
+  pub orderRoom : ℕ
+  pub graceRoom : ℕ
+  pub words : List ℕ
+
+-- The table that lent memory holds.
+abbrev pub tabled : List ℕ → List ℕ → List ℕ → List ℕ → Table
+tabled t order graces words = record { tags = tableIn t; order = listIn order; graces = listIn graces; orderRoom = room order; graceRoom = room graces; words = halvesIn words }
+
+abbrev pub tagAt : Table → ℕ → Tag
+tagAt T k = getD (T .tags) k freshTag
+
+abbrev pub isBit : Table → ℕ → Bool
+isBit T k = not (eqb (getD (T .words) k 0) 0)
+
+-- Rule 5: leaving forgets the missing mark, and any setting but tier 1 forgets the last reading time.
+unfoldable pub timingSet : Timing → ℕ → Timing
+timingSet x tier =
+    cond (eqb tier 0) noTiming (cond (eqb tier 1) x (record { read = false; last = f0; missing = x .missing; retry = x .retry }))
+
+-- Rule 6: new in tier 2 is a tag put there from none or tier 3 and not moved since.
+abbrev pub addedSet : Tag → ℕ → Bool
+addedSet x tier = eqb tier 2 && (eqb (x .tier) 0 || (eqb (x .tier) 3 || x .added))
+
+-- Rule 8: a tag that isn't a bit wants a description on entering the table. Rule 5: leaving forgets the want.
+abbrev pub wantsSet : Tag → Bool → ℕ → Bool
+wantsSet x bit tier = not (eqb tier 0) && (x .wants || (eqb (x .tier) 0 && not bit))
+
+-- Rule 5: leaving forgets an entry.
+abbrev pub heldSet : Held → ℕ → Held
+heldSet h tier = cond (eqb tier 0) None h
+
+-- Rule 5: a tag put in a tier (0 for none) at once: a grace ends; leaving forgets cache, published, missing mark and wanted description, and keeps the known description.
+unfoldable pub tagSet : Tag → Bool → ℕ → Tag
+tagSet x bit tier = record {
+  tier = tier;
+  grace = noGrace;
+  timing = timingSet (x .timing) tier;
+  added = addedSet x tier;
+  wants = wantsSet x bit tier;
+  description = x .description;
+  settings = x .settings;
+  cached = heldSet (x .cached) tier;
+  published = heldSet (x .published) tier;
+}
+
+-- Rule 5: table order is order of entry. A tag that leaves is taken out, one that enters stands last, and one that is changed keeps its place.
+unfoldable pub orderSet : ℕ → List ℕ → ℕ → ℕ → ℕ → List ℕ
+orderSet n order k old new = cond (eqb new 0) (without k order) (cond (eqb old 0) (pushed n order k) order)
+
+-- Rule 5: the tag k put in a tier at once.
+unfoldable pub setTable : Table → ℕ → ℕ → Table
+setTable T k tier = record {
+  tags = set (T .tags) k (tagSet (tagAt T k) (isBit T k) tier);
+  order = orderSet (T .orderRoom) (T .order) k (tagAt T k .tier) tier;
+  graces = without k (T .graces);
+  orderRoom = T .orderRoom;
+  graceRoom = T .graceRoom;
+  words = T .words;
+}
+
+-- the table with one tag and the list of graces replaced
+abbrev pub withTagGraces : Table → ℕ → Tag → List ℕ → Table
+withTagGraces T k x graces = record { tags = set (T .tags) k x; order = T .order; graces = graces; orderRoom = T .orderRoom; graceRoom = T .graceRoom; words = T .words }
+
+abbrev pub graceUntil : Float → ℕ → Grace
+graceUntil deadline after = record { on = true; deadline = deadline; after = after }
+
+-- Rule 5: the tag becomes tier 2 with a deadline; the tier `after` follows.
+unfoldable pub enterGrace : Table → ℕ → Float → ℕ → Table
+enterGrace T k deadline after =
+    let m = setTable T k 2 in
+    withTagGraces m k (withGrace (tagAt m k) (graceUntil deadline after)) (pushed (m .graceRoom) (m .graces) k)
+
+-- Rule 5: asked again in grace it changes only what follows.
+abbrev pub changedTags : List Tag → ℕ → ℕ → List Tag
+changedTags tags k after = set tags k (withGrace (getD tags k freshTag) (graceUntil (getD tags k freshTag .grace .deadline) after))
+
+abbrev pub changeGrace : Table → ℕ → ℕ → Table
+changeGrace T k after = record { tags = changedTags (T .tags) k after; order = T .order; graces = T .graces; orderRoom = T .orderRoom; graceRoom = T .graceRoom; words = T .words }
+
+-- Rule 5: tiers 1 and 2, and every tier when grace is 0, take effect at once. Tier 3 or none from tier 1 becomes tier 2 with deadline clock + grace;
+-- asked again in grace it changes only what follows; otherwise at once.
+unfoldable pub setTier : Table → ℕ → ℕ → Float → Float → Table
+setTier T k tier grace clock =
+    cond (eqb tier 1) (setTable T k tier)
+    (cond (eqb tier 2) (setTable T k tier)
+    (cond (le grace f0) (setTable T k tier)
+    (cond (eqb (tagAt T k .tier) 1) (enterGrace T k (add binary64 clock grace) tier)
+    (cond (tagAt T k .grace .on) (changeGrace T k tier)
+    (setTable T k tier)))))

@@ -1,0 +1,108 @@
+// Tier calls, and the graces of tags that leave tier 1.
+ghost use mathlib.Core.Path.{_≡_};
+ghost use Rattle.tiers.specs.Tiers.{tabled, enterGrace, changeGrace, changedTags, setTier};
+ghost use Rattle.table.specs.Table.{tableIn, withGrace};
+use super::set::set;
+use memory::tags::push;
+use table::fields::grace_of;
+use table::fields::tier_of;
+use table::put_tag;
+use table::tag::Grace;
+use table::tag::Tag;
+use table::tag_of;
+
+fn with_grace(x: Tag, g: Grace) -> Tag
+    ensures { λ r. ⌜ r ≡ withGrace x g ⌝ }
+{
+    let timing = x.timing;
+    let description = x.description;
+    let settings = x.settings;
+    let cached = x.cached;
+    let published = x.published;
+    Tag {
+        tier: x.tier,
+        grace: g,
+        timing: timing,
+        added: x.added,
+        wants: x.wants,
+        description: description,
+        settings: settings,
+        cached: cached,
+        published: published,
+    }
+}
+
+fn enter_grace(
+    t: &mut [u8],
+    order: &mut [u8],
+    graces: &mut [u8],
+    words: &[u8],
+    k: u16,
+    deadline: f64,
+    after: u8,
+)
+    ensures { λ _. ⌜ tabled (now (t .exit)) (now (order .exit)) (now (graces .exit)) (now (words .entry)) ≡ enterGrace (tabled (now (t .entry)) (now (order .entry)) (now (graces .entry)) (now (words .entry))) k deadline after ⌝ }
+{
+    set(t, order, graces, words, k, 2);
+    let x = tag_of(t, k as usize);
+    let g = Grace {
+        on: true,
+        deadline: deadline,
+        after: after,
+    };
+    let y = with_grace(x, g);
+    put_tag(t, k as usize, y);
+    push(graces, k as usize);
+}
+
+fn change_grace(t: &mut [u8], k: u16, after: u8)
+    ensures { λ _. ⌜ tableIn (now (t .exit)) ≡ changedTags (tableIn (now (t .entry))) k after ⌝ }
+{
+    let x = tag_of(t, k as usize);
+    let old = x.grace;
+    let g = Grace {
+        on: true,
+        deadline: old.deadline,
+        after: after,
+    };
+    let y = with_grace(x, g);
+    put_tag(t, k as usize, y);
+}
+
+// Rule 5: a tier call, 0 being none. A tag that leaves tier 1 stays in tier 2 for the grace first, so that a page
+// opened again finds its values fresh.
+pub fn set_tier(
+    t: &mut [u8],
+    order: &mut [u8],
+    graces: &mut [u8],
+    words: &[u8],
+    k: u16,
+    tier: u8,
+    grace: f64,
+    clock: f64,
+)
+    ensures { λ _. ⌜ tabled (now (t .exit)) (now (order .exit)) (now (graces .exit)) (now (words .entry)) ≡ setTier (tabled (now (t .entry)) (now (order .entry)) (now (graces .entry)) (now (words .entry))) k tier grace clock ⌝ }
+{
+    if tier == 1 {
+        set(t, order, graces, words, k, tier);
+        return;
+    }
+    if tier == 2 {
+        set(t, order, graces, words, k, tier);
+        return;
+    }
+    if grace <= 0.0 {
+        set(t, order, graces, words, k, tier);
+        return;
+    }
+    if tier_of(t, k as usize) == 1 {
+        enter_grace(t, order, graces, words, k, clock + grace, tier);
+        return;
+    }
+    let g = grace_of(t, k as usize);
+    if g.on {
+        change_grace(t, k, tier);
+        return;
+    }
+    set(t, order, graces, words, k, tier);
+}

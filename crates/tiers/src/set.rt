@@ -1,0 +1,120 @@
+// A tag put in a tier at once.
+ghost use mathlib.Core.Path.{_≡_};
+ghost use Rattle.memory.specs.Lists.{listIn, room};
+ghost use Rattle.tiers.specs.Tiers.{tabled, timingSet, addedSet, wantsSet, heldSet, tagSet, orderSet, setTable};
+use memory::halves::half;
+use memory::tags::push;
+use memory::tags::remove;
+use table::put_tag;
+use table::tag::Grace;
+use table::tag::Tag;
+use table::tag::Timing;
+use table::tag_of;
+use values::entry::Held;
+
+fn timing_set(x: Timing, tier: u8) -> Timing
+    ensures { λ r. ⌜ r ≡ timingSet x tier ⌝ }
+{
+    if tier == 0 {
+        return Timing::none();
+    }
+    if tier == 1 {
+        return x;
+    }
+    Timing {
+        read: false,
+        last: 0.0,
+        missing: x.missing,
+        retry: x.retry,
+    }
+}
+
+fn added_set(x: Tag, tier: u8) -> bool
+    ensures { λ r. ⌜ r ≡ addedSet x tier ⌝ }
+{
+    if tier != 2 {
+        return false;
+    }
+    if x.tier == 0 {
+        return true;
+    }
+    if x.tier == 3 {
+        return true;
+    }
+    x.added
+}
+
+fn wants_set(x: Tag, bit: bool, tier: u8) -> bool
+    ensures { λ r. ⌜ r ≡ wantsSet x bit tier ⌝ }
+{
+    if tier == 0 {
+        return false;
+    }
+    if x.wants {
+        return true;
+    }
+    if x.tier != 0 {
+        return false;
+    }
+    !bit
+}
+
+// Leaving forgets an entry.
+fn held_set(h: Held, tier: u8) -> Held
+    ensures { λ r. ⌜ r ≡ heldSet h tier ⌝ }
+{
+    if tier == 0 {
+        return Held::None;
+    }
+    h
+}
+
+fn tag_set(x: Tag, bit: bool, tier: u8) -> Tag
+    ensures { λ r. ⌜ r ≡ tagSet x bit tier ⌝ }
+{
+    let grace = Grace::none();
+    let old = x.timing;
+    let timing = timing_set(old, tier);
+    let added = added_set(x, tier);
+    let wants = wants_set(x, bit, tier);
+    let description = x.description;
+    let settings = x.settings;
+    let c = x.cached;
+    let cached = held_set(c, tier);
+    let p = x.published;
+    let published = held_set(p, tier);
+    Tag {
+        tier: tier,
+        grace: grace,
+        timing: timing,
+        added: added,
+        wants: wants,
+        description: description,
+        settings: settings,
+        cached: cached,
+        published: published,
+    }
+}
+
+fn order_set(order: &mut [u8], k: u16, old: u8, new: u8)
+    ensures { λ _. ⌜ listIn (now (order .exit)) ≡ orderSet (room (now (order .entry))) (listIn (now (order .entry))) k old new ⌝ }
+{
+    if new == 0 {
+        remove(order, k as usize);
+    } else if old == 0 {
+        push(order, k as usize);
+    }
+}
+
+// The tag k put in a tier at once; 0 is none.
+pub fn set(t: &mut [u8], order: &mut [u8], graces: &mut [u8], words: &[u8], k: u16, tier: u8)
+    ensures { λ _. ⌜ tabled (now (t .exit)) (now (order .exit)) (now (graces .exit)) (now (words .entry)) ≡ setTable (tabled (now (t .entry)) (now (order .entry)) (now (graces .entry)) (now (words .entry))) k tier ⌝ }
+{
+    let at = k as usize;
+    let bit = half(words, at) != 0;
+    let x = tag_of(t, at);
+    let y = tag_set(x, bit, tier);
+    order_set(order, k, x.tier, tier);
+    remove(graces, at);
+    put_tag(t, at, y);
+}
