@@ -1,4 +1,6 @@
--- `KeepLaws`: the part that passes a test, and counts. `SortLaws`: the stable sort. `SliceLaws`: S slices make one turn.
+-- `KeepLaws`: the part that passes a test, and counts. `CountLaws`: how long a list of tags can be. `SortLaws`: the stable sort.
+-- `SliceLaws`: S slices make one turn.
+pub mod CountLaws
 pub mod KeepLaws
 pub mod SliceLaws
 pub mod SortLaws

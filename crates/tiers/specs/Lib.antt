@@ -1,1 +1,3 @@
+-- Rule 5.
 pub mod Tiers
+pub mod Listed
