@@ -1,12 +1,13 @@
 -- The starred lines of document 01's 'Cases at the edges', with the answers that it gives.
 use mathlib.Core.Bool.{Bool, true, false, _&&_, cond}
-use mathlib.Core.List.{List, [], _∷_, _++_}
-use Prim.Native.Nat.{ℕ, zero, suc}
+use mathlib.Core.List.{List, [], _∷_}
+use Prim.Native.Nat.{ℕ, suc}
 use lib.Dec.{eqb}
 use lib.IntN.{ℤ, pos}
 use lib.Ieee.{Float, binary64, round}
 use lib.ListN.{length}
 use Rattle.ieee.specs.Round.{slicesOf}
+use Rattle.lists.specs.Keep.{upTo}
 use Rattle.lists.specs.Slices.{slice}
 use Rattle.values.specs.Entry.{sameEntry}
 use Rattle.values.specs.Deadband.{withinDeadband}
@@ -44,11 +45,6 @@ good v = record { value = v; quality = Good; t = pos 0; error = None }
 abbrev pub outcome : Float → Value → Value → Outcome
 outcome band published read = cond (sameEntry (good published) (good read)) same (cond (withinDeadband band (good published) (good read)) withheld sent)
 
--- The tags 0 to n - 1.
-unfoldable pub firstTags : ℕ → List ℕ
-firstTags zero = []
-firstTags (suc n) = firstTags n ++ (n ∷ [])
-
 -- Whether the slices of l from index i on, one for each number named, have these sizes.
 unfoldable pub haveSizes : ℕ → List ℕ → ℕ → List ℕ → Bool
 haveSizes S l i [] = true
@@ -64,7 +60,7 @@ pub data Case : Type 0 where
 
 unfoldable pub right : Case → Bool
 right (slices period cycle s) = eqb (slicesOf period cycle) s
-right (sizes n S ns) = eqb (length ns) S && haveSizes S (firstTags n) 0 ns
+right (sizes n S ns) = eqb (length ns) S && haveSizes S (upTo n) 0 ns
 right (reading band a b o) = isOutcome (outcome band a b) o
 
 unfoldable pub allRight : List Case → Bool

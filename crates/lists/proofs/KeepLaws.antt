@@ -1,15 +1,15 @@
 -- The part of a list that passes a test: it names each tag that passes as often as the list does, and no other.
 use mathlib.Core.Path.{_≡_, refl, sym, ap, _∙_}
-use Prim.Native.Nat.{ℕ, _+_, _≤_, _<_}
+use Prim.Native.Nat.{ℕ, zero, suc, _+_, _≤_, _<_}
 use native.Mathlib.Numerals.{add-one}
 use native.Mathlib.Omega.{arith}
 use mathlib.Core.Bool.{Bool, true, false, not, cond, true≢false}
 use mathlib.Core.List.{List, [], _∷_, _++_, append-nil}
-use lib.Dec.{eqb}
-use lib.ListN.{length, take, getD, length-take}
-use lib.Seq.{take-suc}
-use borrow.Author.Tests.{eqb-true, eq-eqb, ne-eqb}
-use Rattle.lists.specs.Keep.{keep, without, count, Below}
+use lib.Dec.{eqb, ltb}
+use lib.ListN.{length, take, getD, length-take, length-append, List·getD-append}
+use lib.Seq.{take-suc, getD-at}
+use borrow.Author.Tests.{eqb-true, eq-eqb, ne-eqb, ltb-true, ltb-false}
+use Rattle.lists.specs.Keep.{keep, without, count, Below, upTo}
 
 -- ---- counts
 
@@ -92,3 +92,21 @@ below-keep n p (x ∷ l) h = go (p x) (below-keep n p l (h .1))
     go : (t : Bool) → Below n (keep p l) → Below n (cond t (x ∷ keep p l) (keep p l))
     go true g = (h .0, g)
     go false g = g
+
+-- ---- the tags 0 to n - 1
+
+pub length-upTo : (n : ℕ) → length (upTo n) ≡ n
+unfolding upTo
+length-upTo zero = refl
+length-upTo (suc n) = length-append (upTo n) (n ∷ []) ∙ omega (arith, length-upTo n)
+
+pub upTo-at : (n k : ℕ) → k < n → getD (upTo n) k 0 ≡ k
+unfolding upTo
+upTo-at zero k h = absurd (omega arith)
+upTo-at (suc n) k h = go (ltb k n) refl (upTo-at n k)
+  where
+    go : (b : Bool) → ltb k n ≡ b → (k < n → getD (upTo n) k 0 ≡ k) → getD (upTo n ++ (n ∷ [])) k 0 ≡ k
+    go true e again = List·getD-append (upTo n) (n ∷ []) 0 k (omega (arith, length-upTo n, ltb-true k n e)) ∙ again (ltb-true k n e)
+    go false e again =
+        let s : k ≡ n = omega (arith, ltb-false k n e) in
+        rw s (getD-at (upTo n) n [] 0 n (length-upTo n))

@@ -1,0 +1,52 @@
+-- `listing::line::line_end` meets its contract.
+use mathlib.Core.Path.{_≡_, refl, sym, _∙_}
+use Prim.Native.Nat.{_-_}
+use lib.ListN.{length, drop}
+use Rattle.listing.specs.Line.{lineEnd}
+use Rattle.listing.proofs.Lines.{feed-end, feed-here, feed-later}
+use borrow.Author.Needs.{needs}
+use Rattle.listing.proofs.line.line_end.Statement.{statement}
+use Rattle.listing.proofs.line.line_end.Tie as tie
+
+abbrev Inv-loop : tie.InvT-loop
+Inv-loop s from i₀ i = lineEnd from (drop from s) ≡ lineEnd i (drop i s)
+
+abbrev μ-loop : tie.MeasureT-loop
+μ-loop s from i₀ i = length s - i
+
+loop-holds : tie.Need-loop-holds Inv-loop μ-loop
+loop-holds c = refl
+
+shared-slice-read-if1 : tie.Need-shared-slice-read-if1 Inv-loop μ-loop
+shared-slice-read-if1 c = search needs
+
+returns : tie.Need-returns Inv-loop μ-loop
+returns c =
+    sym (c .before .before .before .loop .inv ∙ feed-here (c .before .before .before .before .args .s .now) _ (c .before .before .loop-test .taken) (c .if1 .taken))
+
+add-i : tie.Need-add-i Inv-loop μ-loop
+add-i c = search needs
+
+loop-less : tie.Need-loop-less Inv-loop μ-loop
+loop-less c = search needs
+
+loop-again : tie.Need-loop-again Inv-loop μ-loop
+loop-again c =
+    c .before .before .before .loop .inv ∙ feed-later (c .before .before .before .before .args .s .now) _ (c .before .before .loop-test .taken) (c .if1 .left)
+
+returns-2 : tie.Need-returns-2 Inv-loop μ-loop
+returns-2 c = sym (c .before .loop .inv ∙ feed-end (c .before .before .args .s .now) _ (c .loop-test .left))
+
+pub line-end-spec : {M : Type 1} → statement M
+line-end-spec =
+    tie.close
+    (tie.spec
+    Inv-loop
+    μ-loop
+    loop-holds
+    shared-slice-read-if1
+    returns
+    add-i
+    loop-less
+    loop-again
+    returns-2)
