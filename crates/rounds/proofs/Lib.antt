@@ -1,4 +1,6 @@
--- Laws of rule 6, one tag at a time.
+-- Laws of rule 6, part by part.
+pub mod AddedLaws
 pub mod DueLaws
 pub mod GraceLaws
+pub mod SliceLaws
 pub mod TickLaws

@@ -9,11 +9,13 @@ use memory::tags::push;
 use table::fields::added_of;
 use table::fields::put_added;
 
-// The tags new in tier 2 that `list` does not have, by tag number, after what it has.
+// The tags new in tier 2 that `list` does not have, by tag number, after what it has. A list can hold
+// tags below 65536.
 pub fn list_added(t: &[u8], list: &mut [u8])
     ensures { λ _. ⌜ listIn (now (list .exit)) ≡ withAddedTags (room (now (list .entry))) (tableIn (now (t .entry))) (listIn (now (list .entry))) ⌝ }
 {
-    let n = t.len() / 256;
+    let rows = t.len() / 256;
+    let n = if rows < 65536 { rows } else { 65536 };
     let mut k: usize = 0;
     while k < n {
         if added_of(t, k) {
