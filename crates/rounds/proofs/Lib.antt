@@ -2,5 +2,6 @@
 pub mod AddedLaws
 pub mod DueLaws
 pub mod GraceLaws
+pub mod RoundLaws
 pub mod SliceLaws
 pub mod TickLaws

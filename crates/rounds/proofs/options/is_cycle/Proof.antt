@@ -1,20 +1,16 @@
+-- `rounds::options::is_cycle` meets its contract.
 use lib.Ieee.{ofBits, ofInt, round}
 use Rattle.rounds.proofs.options.is_cycle.Statement.{statement}
 use Rattle.rounds.proofs.options.is_cycle.Tie as tie
-use Rattle.rounds.proofs.options.is_cycle.Reads as reads
-use Rattle.rounds.proofs.options.is_cycle.Lts as lts
 
--- src/options.rt:10:9
 returns : tie.Need-returns
 unfolding ofBits ofInt round
 returns c = rw (c .if1 .taken)
 
--- src/options.rt:6:1
 returns-2 : tie.Need-returns-2
 unfolding ofBits ofInt round
 returns-2 c = rw (c .before .if1 .left, c .if2 .taken)
 
--- src/options.rt:6:1
 returns-3 : tie.Need-returns-3
 unfolding ofBits ofInt round
 returns-3 c = rw (c .before .if1 .left, c .if2 .left)
