@@ -54,7 +54,35 @@ enum Step {
     End,
 }
 
-// The bytes of a piece, line by line; `have` bytes of its first line are in `line` already.
+// One byte more, where `n` bytes of its line are in `line` already.
+fn take_byte(
+    s: State,
+    n: usize,
+    b: u8,
+    line: &mut [u8],
+    buffer: &mut [u8],
+    ends: &mut [u32],
+    keys: &mut [u8],
+    words: &mut [u8],
+    t: &mut [u8],
+    order: &mut [u8],
+    graces: &mut [u8],
+) -> Step {
+    if line.len() <= n {
+        return Step::End;
+    }
+    if b != b'\n' {
+        line[n] = b;
+        return Step::On(s, n + 1);
+    }
+    let Next::On(next) = take_line(s, &line[0..n], buffer, ends, keys, words, t, order, graces)
+    else {
+        return Step::End;
+    };
+    Step::On(next, 0)
+}
+
+// The bytes of a piece; `have` bytes of its first line are in `line` already.
 fn take_piece(
     start: State,
     have: usize,
@@ -72,36 +100,101 @@ fn take_piece(
     let mut n = have;
     let mut i: usize = 0;
     while i < piece.len() {
-        let b = piece[i];
-        if line.len() <= n {
+        let Step::On(next, m) = take_byte(
+            s,
+            n,
+            piece[i],
+            line,
+            buffer,
+            ends,
+            keys,
+            words,
+            t,
+            order,
+            graces,
+        ) else {
             return Step::End;
-        }
-        if b == b'\n' {
-            let Next::On(next) = take_line(
-                s,
-                &line[0..n],
-                buffer,
-                ends,
-                keys,
-                words,
-                t,
-                order,
-                graces,
-            ) else {
-                return Step::End;
-            };
-            s = next;
-            n = 0;
-        } else {
-            line[n] = b;
-            n += 1;
-        }
+        };
+        s = next;
+        n = m;
         i += 1;
     }
     Step::On(s, n)
 }
 
-// A line without its line feed at the end of the input is of another form, and ends the listing.
+// One read. At the end of the input there is nothing more to do: a line without its line feed is of another form.
+fn read_some(
+    s: State,
+    have: usize,
+    piece: &mut [u8],
+    line: &mut [u8],
+    buffer: &mut [u8],
+    ends: &mut [u32],
+    keys: &mut [u8],
+    words: &mut [u8],
+    t: &mut [u8],
+    order: &mut [u8],
+    graces: &mut [u8],
+) -> Step {
+    let got = libc::read(STDIN_FILENO, piece);
+    let n = io::count(got, piece);
+    if n == 0 {
+        return Step::End;
+    }
+    take_piece(
+        s,
+        have,
+        &piece[0..n],
+        line,
+        buffer,
+        ends,
+        keys,
+        words,
+        t,
+        order,
+        graces,
+    )
+}
+
+// A proved loop has to end, and nothing says that the input does: the turns are more than any run has.
+fn read_all(
+    start: State,
+    piece: &mut [u8],
+    line: &mut [u8],
+    buffer: &mut [u8],
+    ends: &mut [u32],
+    keys: &mut [u8],
+    words: &mut [u8],
+    t: &mut [u8],
+    order: &mut [u8],
+    graces: &mut [u8],
+) {
+    let mut s = start;
+    let mut n: usize = 0;
+    let mut turns = u64::MAX;
+    while 0 < turns {
+        let Step::On(next, m) = read_some(
+            s,
+            n,
+            piece,
+            line,
+            buffer,
+            ends,
+            keys,
+            words,
+            t,
+            order,
+            graces,
+        ) else {
+            return;
+        };
+        s = next;
+        n = m;
+        turns -= 1;
+    }
+}
+
+// The memory of a listing, all zero at the start.
 pub fn list_rounds() {
     let mut piece = [0u8; 4096];
     let mut line = [0u8; LINE];
@@ -112,32 +205,17 @@ pub fn list_rounds() {
     let mut t = [0u8; 30720];
     let mut order = [0u8; LIST];
     let mut graces = [0u8; LIST];
-    let mut s = State::new();
-    let mut have: usize = 0;
-    // A proved loop has to end, and nothing says that the input does: the turns are more than any run has.
-    let mut turns = u64::MAX;
-    while 0 < turns {
-        let n = io::count(libc::read(STDIN_FILENO, &mut piece), &piece);
-        if n == 0 {
-            return;
-        }
-        let Step::On(next, left) = take_piece(
-            s,
-            have,
-            &piece[0..n],
-            &mut line,
-            &mut buffer,
-            &mut ends,
-            &mut keys,
-            &mut words,
-            &mut t,
-            &mut order,
-            &mut graces,
-        ) else {
-            return;
-        };
-        s = next;
-        have = left;
-        turns -= 1;
-    }
+    let s = State::new();
+    read_all(
+        s,
+        &mut piece,
+        &mut line,
+        &mut buffer,
+        &mut ends,
+        &mut keys,
+        &mut words,
+        &mut t,
+        &mut order,
+        &mut graces,
+    );
 }
