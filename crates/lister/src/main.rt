@@ -1,10 +1,4 @@
-// The round lister: document 01's program. It reads lines from standard input and prints the rounds.
-mod calls;
-mod input;
-mod setup;
-mod state;
-
+// The round lister: document 01's program, here on document 01's example.
 fn main() {
-    io::write_all(libc::STDOUT_FILENO, b"ms b n tags\n");
-    input::list_rounds();
+    stream::list_rounds();
 }

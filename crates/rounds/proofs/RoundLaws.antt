@@ -17,7 +17,7 @@ use Rattle.rounds.specs.Tick.{tickOf, boundaryAt}
 use Rattle.rounds.specs.Graces.{expiredAt, runOut}
 use Rattle.rounds.specs.Due.{dueTags, marked, recordedDue, noneSeen}
 use Rattle.rounds.specs.Slice.{tier2Tags, sliceTaken, nextIndex}
-use Rattle.rounds.specs.Added.{withAddedTags, settled}
+use Rattle.rounds.specs.Added.{byRank, withAddedTags, settled}
 use Rattle.rounds.specs.Missing.{notHeldBack}
 use Rattle.rounds.specs.Round.{Round, withTags, cycleAfter, round}
 use Rattle.rounds.specs.Memory.{pollingIn, roomsIn, Worked}
@@ -40,7 +40,7 @@ module _ (less : ℕ → ℕ → Bool) (o : Options) (c : Cycle) (clock : Float)
     pub moved : index ≡ nextIndex boundary (slicesOf (o .period) (o .cycle)) (tier2Tags less (room sorted) (tableIn t2) (listIn order1)) (c .index)
     pub sliced : listIn wanted3 ≡ fitted (room wanted2) (listIn wanted2 ++ sliceTaken boundary (slicesOf (o .period) (o .cycle)) (tier2Tags less (room sorted) (tableIn t2) (listIn order1)) (c .index))
     pub long3 : length wanted3 ≡ length wanted2
-    pub added : listIn wanted4 ≡ withAddedTags (room wanted3) (tableIn t2) (listIn wanted3)
+    pub added : listIn wanted4 ≡ withAddedTags (room wanted3) (tableIn t2) (listIn wanted3) (byRank (tableIn t2))
     pub kept : listIn list1 ≡ notHeldBack (room list) (tableIn t2) (listIn wanted4) clock
     pub left : tableIn t3 ≡ map settled (tableIn t2)
     pub cycled : cycle1 ≡ cycleAfter c boundary clock index

@@ -13,9 +13,13 @@ use Rattle.rounds.specs.Room.{fitted}
 abbrev pub isAdded : List Tag → List ℕ → ℕ → Bool
 isAdded tags listed k = getD tags k freshTag .added && not (member k listed)
 
--- Rule 6: then tags new in tier 2 and not listed yet, by byte order. A list in memory holds tags below 65536; no directory has so many.
-abbrev pub withAddedTags : ℕ → List Tag → List ℕ → List ℕ
-withAddedTags room tags listed = fitted room (listed ++ keep (isAdded tags listed) (upTo (min (length tags) 65536)))
+-- The tags of a table by rank, which is byte order. A list in memory holds tags below 65536; no directory has so many.
+abbrev pub byRank : List Tag → List ℕ
+byRank tags = upTo (min (length tags) 65536)
+
+-- Rule 6: then those of `tags` that are new in tier 2 and not listed yet.
+abbrev pub withAddedTags : ℕ → List Tag → List ℕ → List ℕ → List ℕ
+withAddedTags room table listed tags = fitted room (listed ++ keep (isAdded table listed) tags)
 
 -- Rule 6: a tag is new in tier 2 only up to the next round.
 abbrev pub settled : Tag → Tag

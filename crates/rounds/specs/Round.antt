@@ -12,7 +12,7 @@ use Rattle.rounds.specs.Tick.{tickOf, boundaryAt}
 use Rattle.rounds.specs.Graces.{expiredAt, runOut}
 use Rattle.rounds.specs.Due.{dueTags, marked, recordedDue, noneSeen}
 use Rattle.rounds.specs.Slice.{tier2Tags, sliceTaken, nextIndex}
-use Rattle.rounds.specs.Added.{withAddedTags, settled}
+use Rattle.rounds.specs.Added.{byRank, withAddedTags, settled}
 use Rattle.rounds.specs.Missing.{notHeldBack}
 use Rattle.rounds.specs.declared.tick.Options.{Options}
 use Rattle.rounds.specs.declared.tick.Cycle.{Cycle}
@@ -63,7 +63,7 @@ round less rooms o P clock =
     let S = slicesOf (o .period) (o .cycle) in
     let tier2 = tier2Tags less (rooms .sorted) tags (T1 .order) in
     let taken = sliceTaken boundary S tier2 (P .cycle .index) in
-    let wanted = withAddedTags (rooms .wanted) tags (fitted (rooms .wanted) (due ++ taken)) in
+    let wanted = withAddedTags (rooms .wanted) tags (fitted (rooms .wanted) (due ++ taken)) (byRank tags) in
     record {
       tick = tick;
       boundary = boundary;

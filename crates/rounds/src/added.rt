@@ -3,7 +3,7 @@ ghost use mathlib.Core.Path.{_≡_};
 ghost use mathlib.Core.List.{map};
 ghost use Rattle.memory.specs.Lists.{listIn, room};
 ghost use Rattle.table.specs.Table.{tableIn};
-ghost use Rattle.rounds.specs.Added.{withAddedTags, settled};
+ghost use Rattle.rounds.specs.Added.{byRank, withAddedTags, settled};
 use memory::tags::contains;
 use memory::tags::push;
 use table::fields::added_of;
@@ -12,7 +12,7 @@ use table::fields::put_added;
 // The tags new in tier 2 that `list` does not have, by tag number, after what it has. A list can hold
 // tags below 65536.
 pub fn list_added(t: &[u8], list: &mut [u8])
-    ensures { λ _. ⌜ listIn (now (list .exit)) ≡ withAddedTags (room (now (list .entry))) (tableIn (now (t .entry))) (listIn (now (list .entry))) ⌝ }
+    ensures { λ _. ⌜ listIn (now (list .exit)) ≡ withAddedTags (room (now (list .entry))) (tableIn (now (t .entry))) (listIn (now (list .entry))) (byRank (tableIn (now (t .entry)))) ⌝ }
 {
     let rows = t.len() / 256;
     let n = if rows < 65536 { rows } else { 65536 };

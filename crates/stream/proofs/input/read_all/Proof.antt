@@ -1,10 +1,10 @@
--- `lister::input::read_all` meets its contract.
+-- `stream::input::read_all` meets its contract.
 use mathlib.Core.Path.{_≡_, refl, _∙_}
 use native.Mathlib.Omega.{arith}
 use borrow.Author.Needs.{needs}
 use lib.ListN.{length}
-use Rattle.lister.proofs.input.read_all.Statement.{statement}
-use Rattle.lister.proofs.input.read_all.Tie as tie
+use Rattle.stream.proofs.input.read_all.Statement.{statement}
+use Rattle.stream.proofs.input.read_all.Tie as tie
 
 abbrev Inv-loop : tie.InvT-loop
 Inv-loop piece₀ line₀ buffer₀ ends₀ keys₀ words₀ t₀ order₀ graces₀ s₀ n₀ turns₀ piece line buffer ends keys words t order graces s n turns = (length piece ≡ length piece₀) × ((length line ≡ length line₀) × ((length buffer ≡ length buffer₀) × ((length ends ≡ length ends₀) × ((length keys ≡ length keys₀) × ((length words ≡ length words₀) × ((length t ≡ length t₀) × ((length order ≡ length order₀) × ((length graces ≡ length graces₀)))))))))

@@ -1,11 +1,11 @@
--- `lister::input::take_piece` meets its contract.
+-- `stream::input::take_piece` meets its contract.
 use mathlib.Core.Path.{_≡_, refl, _∙_}
 use Prim.Native.Nat.{_-_, _<_, _^_}
 use native.Mathlib.Omega.{arith}
 use borrow.Author.Needs.{needs}
 use lib.ListN.{length}
-use Rattle.lister.proofs.input.take_piece.Statement.{statement}
-use Rattle.lister.proofs.input.take_piece.Tie as tie
+use Rattle.stream.proofs.input.take_piece.Statement.{statement}
+use Rattle.stream.proofs.input.take_piece.Tie as tie
 
 abbrev Inv-loop : tie.InvT-loop
 Inv-loop have piece line₀ buffer₀ ends₀ keys₀ words₀ t₀ order₀ graces₀ s₀ n₀ i₀ line buffer ends keys words t order graces s n i = (length line ≡ length line₀) × ((length buffer ≡ length buffer₀) × ((length ends ≡ length ends₀) × ((length keys ≡ length keys₀) × ((length words ≡ length words₀) × ((length t ≡ length t₀) × ((length order ≡ length order₀) × ((length graces ≡ length graces₀))))))))

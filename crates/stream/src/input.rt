@@ -195,7 +195,7 @@ fn read_all(
 }
 
 // The memory of a listing, all zero at the start.
-pub fn list_rounds() {
+pub fn read_input() {
     let mut piece = [0u8; 4096];
     let mut line = [0u8; LINE];
     let mut buffer = [0u8; 4800];

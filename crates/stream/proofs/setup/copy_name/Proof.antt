@@ -1,11 +1,11 @@
--- `lister::setup::copy_name` meets its contract.
+-- `stream::setup::copy_name` meets its contract.
 use mathlib.Core.Path.{_≡_, refl}
 use Prim.Native.Nat.{_-_}
 use native.Mathlib.Omega.{arith}
 use borrow.Author.Needs.{needs}
 use lib.ListN.{length}
-use Rattle.lister.proofs.setup.copy_name.Statement.{statement}
-use Rattle.lister.proofs.setup.copy_name.Tie as tie
+use Rattle.stream.proofs.setup.copy_name.Statement.{statement}
+use Rattle.stream.proofs.setup.copy_name.Tie as tie
 
 abbrev Inv-loop : tie.InvT-loop
 Inv-loop line buffer₀ used i₀ to₀ buffer i to = length buffer ≡ length buffer₀
