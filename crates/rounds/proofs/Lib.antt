@@ -2,6 +2,7 @@
 pub mod AddedLaws
 pub mod DueLaws
 pub mod GraceLaws
+pub mod NameLaws
 pub mod RoundLaws
 pub mod SliceLaws
 pub mod TickLaws
