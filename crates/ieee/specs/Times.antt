@@ -5,7 +5,7 @@ use lib.Ieee.{Float, binary64, add, div, lt, le}
 use lib.Ieee.Scale.{finite}
 use Rattle.ieee.specs.Round.{float}
 
--- Rule 6: the rate of a group in seconds is its rate in milliseconds / 1000.
+-- Rule 6: the rate of a group in seconds is its rate in milliseconds / 1000. So are the round lister's times.
 abbrev pub rateSeconds : ℕ → Float
 rateSeconds ms = div binary64 (float ms) (float 1000)
 

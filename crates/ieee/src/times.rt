@@ -9,6 +9,13 @@ pub fn rate_seconds(ms: u32) -> f64
     (ms as f64) / 1000.0
 }
 
+// A time, given in whole milliseconds.
+pub fn seconds(ms: u64) -> f64
+    ensures { λ r. ⌜ r ≡ rateSeconds ms ⌝ }
+{
+    std::num::nearest_u64_to_f64(ms) / 1000.0
+}
+
 // Whether a tag or a boundary last met at `last` is due again, `half` being half a tick.
 pub fn is_due(clock: f64, half: f64, last: f64, rate: f64) -> bool
     ensures { λ r. ⌜ r ≡ dueAt clock half last rate ⌝ }

@@ -1,3 +1,4 @@
 -- What the C functions answer.
 pub mod Directories
 pub mod Entries
+pub mod Polls

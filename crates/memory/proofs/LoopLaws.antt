@@ -59,7 +59,7 @@ module _ (p : ℕ → Bool) (xs : List ℕ) where
 
 -- ---- the same where room may run out: what comes too late is dropped
 
-pushed-clipped : (n : ℕ) (ys : List ℕ) (k : ℕ) → pushed n (take n ys) k ≡ take n (ys ++ (k ∷ []))
+pub pushed-clipped : (n : ℕ) (ys : List ℕ) (k : ℕ) → pushed n (take n ys) k ≡ take n (ys ++ (k ∷ []))
 pushed-clipped n ys k = by-test (ltb (length ys) n) refl
   where
     by-test : (b : Bool) → ltb (length ys) n ≡ b → pushed n (take n ys) k ≡ take n (ys ++ (k ∷ []))

@@ -1,13 +1,13 @@
 -- The table in terms of its rows, and what one cell of a row changes in its tag.
 use mathlib.Core.Path.{_≡_, refl, ap, sym, _∙_, subst}
 use mathlib.Core.List.{List, [], _∷_, map}
-use Prim.Native.Nat.{ℕ, zero, suc}
+use Prim.Native.Nat.{ℕ, zero, suc, _/_}
 use native.Mathlib.Omega.{arith}
 use lib.Dec.{ltb}
 use lib.Ieee.{binary64, ofBits}
-use lib.ListN.{length, getD, set, drop}
+use lib.ListN.{length, getD, set, drop, length-map}
 use Rattle.memory.specs.Cells.{rowsIn, noRow}
-use Rattle.memory.proofs.RowLaws.{map-at, map-set, row-long}
+use Rattle.memory.proofs.RowLaws.{length-rows, map-at, map-set, row-long}
 use Rattle.table.specs.Tag.{freshTag}
 use Rattle.table.specs.Row.{tagFrom}
 use Rattle.table.specs.Table.{tableIn, withLast, withAdded}
@@ -62,3 +62,8 @@ pub rows-put-2 : (old mid new : List ℕ) (k i u j v : ℕ)
 rows-put-2 old mid new k i u j v e f =
     f ∙ ap (λ (rs : List (List ℕ)). set rs k (set (getD rs k noRow) j v)) e
     ∙ set-again (λ (r : List ℕ). set r j v) (rowsIn old) k (set (getD (rowsIn old) k noRow) i u) noRow
+
+-- a tag for each whole row
+pub length-table : (bs : List ℕ) → length (tableIn bs) ≡ length bs / 256
+unfolding tableIn
+length-table bs = length-map (rowsIn bs) tagFrom ∙ length-rows bs

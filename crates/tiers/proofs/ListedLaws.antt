@@ -60,7 +60,7 @@ module _ (T : Table) (l : Listed T) where
   order-once : (k : ℕ) → count k (T .order) ≤ 1
   order-once k = omega (arith, l .once k, few-in (tagAt T k .tier))
 
-  order-below : Below (length (T .tags)) (T .order)
+  pub order-below : Below (length (T .tags)) (T .order)
   order-below = below-counts (length (T .tags)) (T .order) (λ k h. l .once k ∙ ap (λ (x : Tag). inTier (x .tier)) (List·getD-eq-default (T .tags) freshTag h))
 
   order-room : (k : ℕ) → k < length (T .tags) → tagAt T k .tier ≡ 0 → length (T .order) < T .orderRoom
@@ -111,7 +111,7 @@ either P true x y p q = p
 either P false x y p q = q
 
 module _ (T : Table) (l : Listed T) (k : ℕ) (h : k < length (T .tags)) where
-  set-long : (tier : ℕ) → length (setTable T k tier .tags) ≡ length (T .tags)
+  pub set-long : (tier : ℕ) → length (setTable T k tier .tags) ≡ length (T .tags)
   unfolding setTable
   set-long tier = length-set (T .tags) k (tagSet (tagAt T k) (isBit T k) tier)
 

@@ -1,0 +1,73 @@
+// The head of an engine: what it keeps beside the table. It is one row of lent memory.
+pub mod codec;
+
+ghost use mathlib.Core.Path.{_≡_};
+ghost use Rattle.engine.specs.Engine.{freshEngine, engineIn, stored, backoffAt, retryAt};
+use rounds::tick::Cycle;
+use rounds::tick::Options;
+
+// `clock` is the last reading accepted, `count` how many names the directory has.
+pub struct Engine {
+    pub options: Options,
+    pub cycle: Cycle,
+    pub clock: f64,
+    pub count: u64,
+}
+
+impl Engine {
+    // Seconds between reconnect attempts; the last one repeats.
+    pub const BACKOFF: [f64; 4] = [1.0, 2.0, 5.0, 10.0];
+    // Seconds before a missing tag is asked for again.
+    pub const MISSING_RETRY: f64 = 10.0;
+
+    pub fn fresh(options: Options, count: u64) -> Engine
+        ensures { λ r. ⌜ r ≡ freshEngine options count ⌝ }
+    {
+        let cycle = Cycle {
+            begun: false,
+            last: 0.0,
+            index: 0,
+        };
+        Engine {
+            options: options,
+            cycle: cycle,
+            clock: 0.0,
+            count: count,
+        }
+    }
+
+    // The wait before reconnect attempt `attempt`, counted from 0.
+    pub fn backoff(attempt: u64) -> f64
+        ensures { λ r. ⌜ r ≡ backoffAt attempt ⌝ }
+    {
+        let waits = Engine::BACKOFF;
+        if attempt < 3 {
+            waits[attempt as usize]
+        } else {
+            waits[3]
+        }
+    }
+
+    // When a tag found missing in a round that started at `start` is asked for again.
+    pub fn retry_at(start: f64) -> f64
+        ensures { λ r. ⌜ r ≡ retryAt start ⌝ }
+    {
+        start + Engine::MISSING_RETRY
+    }
+}
+
+// The head that a row holds.
+pub fn load(s: &[u8]) -> Engine
+    ensures { λ r. ⌜ r ≡ engineIn (now (s .entry)) ⌝ }
+{
+    let w = memory::rows::row(s, 0);
+    codec::engine_from(w)
+}
+
+// The head put in the first row; where there is none nothing happens.
+pub fn store(s: &mut [u8], x: Engine)
+    ensures { λ _. ⌜ engineIn (now (s .exit)) ≡ stored (now (s .entry)) x ⌝ }
+{
+    let w = codec::engine_words(x);
+    memory::rows::put_row(s, 0, w);
+}

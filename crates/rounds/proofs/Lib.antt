@@ -1,0 +1,8 @@
+-- Laws of rule 6, part by part.
+pub mod AddedLaws
+pub mod DueLaws
+pub mod GraceLaws
+pub mod NameLaws
+pub mod RoundLaws
+pub mod SliceLaws
+pub mod TickLaws

@@ -1,0 +1,109 @@
+-- `rounds::graces::run_out` meets its contract.
+use mathlib.Core.Path.{_≡_, refl, ap, ap₂, sym, _∙_}
+use Prim.Native.Nat.{_+_, _≤_, _<_, _-_}
+use native.Mathlib.Nat.{mod-eq-of-lt}
+use native.Mathlib.Omega.{arith}
+use borrow.Author.Needs.{needs}
+use denote.Ref.{now}
+use lib.ListN.{length, drop}
+use Rattle.memory.specs.Lists.{listIn}
+use Rattle.memory.proofs.ListLaws.{list-small}
+use Rattle.table.specs.declared.tag.Grace.{Grace}
+use Rattle.tiers.specs.Tiers.{Table, tabled, setTable}
+use Rattle.rounds.specs.Graces.{runOut}
+use Rattle.rounds.proofs.GraceLaws.{run-more, run-end}
+use Rattle.rounds.proofs.graces.run_out.Statement.{statement}
+use Rattle.rounds.proofs.graces.run_out.Tie as tie
+
+abbrev Inv-loop : tie.InvT-loop
+Inv-loop t₀ order₀ graces₀ words list n i₀ t order graces i =
+    (i ≤ n) × ((length t ≡ length t₀) × ((length order ≡ length order₀) × ((length graces ≡ length graces₀)
+    × (runOut (tabled t₀ order₀ graces₀ words) (listIn list) ≡ runOut (tabled t order graces words) (drop i (listIn list))))))
+
+abbrev μ-loop : tie.MeasureT-loop
+μ-loop t₀ order₀ graces₀ words list n i₀ t order graces i = n - i
+
+count-requires : tie.Need-count-requires Inv-loop μ-loop
+count-requires c κs = search needs
+
+loop-holds : tie.Need-loop-holds Inv-loop μ-loop
+loop-holds c = (omega arith, (refl, (refl, (refl, refl))))
+
+at-requires : tie.Need-at-requires Inv-loop μ-loop
+at-requires c κs = search needs
+
+grace-of-requires : tie.Need-grace-of-requires Inv-loop μ-loop
+grace-of-requires c κs = search needs
+
+cast-set : tie.Need-cast-set Inv-loop μ-loop
+cast-set c = search needs
+
+set-requires : tie.Need-set-requires Inv-loop μ-loop
+set-requires c κs = search needs
+
+add-i : tie.Need-add-i Inv-loop μ-loop
+add-i c = omega arith
+
+loop-less : tie.Need-loop-less Inv-loop μ-loop
+loop-less c = omega arith
+
+loop-again : tie.Need-loop-again Inv-loop μ-loop
+loop-again c =
+    let a = c .before .before .before .before .before .before .before .before .before .before .before .before .before .before .before .before .before .before .before .before .before .args in
+    let l = c .before .before .before .before .before .before .before .before .before .before .before .before .before .before .loop in
+    let tags = listIn (now (a .list)) in
+    let s = c .before .before .before .before .before .before .set in
+    let k = c .before .before .before .before .before .before .before .before .before .before .before .before .at in
+    let small : k .result < 65536 = rw (k .ensures) (list-small (now (a .list)) (l .i)) in
+    let T = tabled (l .t) (l .order) (l .graces) (now (a .words)) in
+    let after = ap (λ (g : Grace). g .after) (c .before .before .before .before .before .before .before .before .before .before .grace-of .ensures) in (
+      omega arith,
+      (
+        s .kept .0 ∙ l .inv .1 .0,
+        (
+          s .kept .1 .0 ∙ l .inv .1 .1 .0,
+          (
+            s .kept .1 .1 .0 ∙ l .inv .1 .1 .1 .0,
+            l .inv .1 .1 .1 .1
+                ∙ run-more T tags (l .i) (k .result) (omega arith) (k .ensures)
+                ∙ ap (λ (X : Table). runOut X (drop (l .i + 1) tags))
+                (sym (s .ensures ∙ ap₂ (setTable T) (mod-eq-of-lt small) after)),
+          ),
+        ),
+      ),
+    )
+
+same-length : tie.Need-same-length Inv-loop μ-loop
+same-length c = c .before .loop .inv .1 .0
+
+same-length-2 : tie.Need-same-length-2 Inv-loop μ-loop
+same-length-2 c = c .before .loop .inv .1 .1 .0
+
+same-length-3 : tie.Need-same-length-3 Inv-loop μ-loop
+same-length-3 c = c .before .loop .inv .1 .1 .1 .0
+
+returns : tie.Need-returns Inv-loop μ-loop
+returns c =
+    let a = c .before .before .before .before .before .before .before .before .args in
+    let l = c .before .loop in
+    sym (l .inv .1 .1 .1 .1 ∙ run-end (tabled (l .t) (l .order) (l .graces) (now (a .words))) (listIn (now (a .list))) (l .i) (omega arith))
+
+pub run-out-spec : {M : Type 1} → statement M
+run-out-spec =
+    tie.close
+    (tie.spec
+    Inv-loop
+    μ-loop
+    count-requires
+    loop-holds
+    at-requires
+    grace-of-requires
+    cast-set
+    set-requires
+    add-i
+    loop-less
+    loop-again
+    same-length
+    same-length-2
+    same-length-3
+    returns)

@@ -1,0 +1,26 @@
+-- Rule 6: tags new in tier 2.
+use mathlib.Core.Bool.{Bool, false, not, _&&_}
+use mathlib.Core.List.{List, _++_}
+use Prim.Native.Nat.{ℕ, min}
+use lib.ListN.{length, getD}
+use Rattle.lists.specs.Keep.{keep, upTo}
+use Rattle.memory.specs.Lists.{member}
+use Rattle.table.specs.Tag.{freshTag}
+use Rattle.table.specs.Table.{withAdded}
+use Rattle.table.specs.declared.tag.Tag.{Tag}
+use Rattle.rounds.specs.Room.{fitted}
+
+abbrev pub isAdded : List Tag → List ℕ → ℕ → Bool
+isAdded tags listed k = getD tags k freshTag .added && not (member k listed)
+
+-- The tags of a table by rank, which is byte order. A list in memory holds tags below 65536; no directory has so many.
+abbrev pub byRank : List Tag → List ℕ
+byRank tags = upTo (min (length tags) 65536)
+
+-- Rule 6: then those of `tags` that are new in tier 2 and not listed yet.
+abbrev pub withAddedTags : ℕ → List Tag → List ℕ → List ℕ → List ℕ
+withAddedTags room table listed tags = fitted room (listed ++ keep (isAdded table listed) tags)
+
+-- Rule 6: a tag is new in tier 2 only up to the next round.
+abbrev pub settled : Tag → Tag
+settled x = withAdded x false

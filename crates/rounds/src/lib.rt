@@ -1,0 +1,9 @@
+// Rule 6: which tags are read in a round.
+pub mod added;
+pub mod due;
+pub mod graces;
+pub mod missing;
+pub mod options;
+pub mod round;
+pub mod slice;
+pub mod tick;
