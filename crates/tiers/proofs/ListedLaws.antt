@@ -1,6 +1,6 @@
 -- Every tier change keeps the table listed.
 use mathlib.Core.Path.{_≡_, refl, ap, sym, _∙_, subst}
-use mathlib.Core.Bool.{Bool, true, false, cond}
+use mathlib.Core.Bool.{Bool, true, false, not, cond}
 use mathlib.Core.List.{List, [], _∷_, _++_}
 use Prim.Native.Nat.{ℕ, zero, suc, _+_, _≤_, _<_}
 use native.Mathlib.Omega.{arith}
@@ -13,10 +13,11 @@ use Rattle.lists.specs.Keep.{count, without, Below}
 use Rattle.lists.proofs.KeepLaws.{count-append, count-without, count-without-other, below-append, below-keep}
 use Rattle.lists.proofs.CountLaws.{below-counts, length-fewer}
 use Rattle.memory.specs.Lists.{pushed}
-use Rattle.table.specs.Tag.{f0, freshTag}
+use Rattle.table.specs.Tag.{f0, noGrace, freshTag}
 use Rattle.table.specs.Table.{withGrace}
+use Rattle.table.specs.declared.tag.Grace.{Grace}
 use Rattle.table.specs.declared.tag.Tag.{Tag}
-use Rattle.tiers.specs.Tiers.{Table, tagAt, isBit, tagSet, orderSet, setTable, withTagGraces, graceUntil, enterGrace, changedTags, changeGrace, setTier}
+use Rattle.tiers.specs.Tiers.{Table, tagAt, isBit, tagSet, orderSet, graceEnded, putTable, setTable, withTagGraces, graceUntil, enterGrace, changedTags, changeGrace, setTier}
 use Rattle.tiers.specs.Listed.{inTier, Listed}
 
 few-in : (n : ℕ) → inTier n ≤ 1
@@ -39,20 +40,27 @@ one-more j k l b e = rw (count-append j l (k ∷ []), e) (omega arith)
 module _ (n k : ℕ) (order : List ℕ) where
   order-same : (old new : ℕ) → count k order ≡ inTier old → (old ≡ 0 → length order < n) → count k (orderSet n order k old new) ≡ inTier new
   unfolding orderSet
-  order-same old zero c r = count-without k order
+  order-same zero zero c r = c
   order-same zero (suc m) c r =
       rw (ne-eqb (suc m) 0 (λ e. omega arith), lt-ltb (length order) n (r refl)) (omega (arith, one-more k k order true (eq-eqb k k refl)))
-  order-same (suc o) (suc m) c r = rw (ne-eqb (suc m) 0 (λ e. omega arith), ne-eqb (suc o) 0 (λ e. omega arith)) c
+  order-same (suc o) zero c r = rw (ne-eqb (suc o) 0 (λ e. omega arith)) (count-without k order)
+  order-same (suc o) (suc m) c r = rw (ne-eqb (suc o) 0 (λ e. omega arith), ne-eqb (suc m) 0 (λ e. omega arith)) c
 
   order-other : (old new j : ℕ) → (j ≡ k → ⊥) → count j (orderSet n order k old new) ≡ count j order
   unfolding orderSet
-  order-other old zero j d = count-without-other k j order d
+  order-other zero zero j d = refl
   order-other zero (suc m) j d = rw (ne-eqb (suc m) 0 (λ e. omega arith)) (go (ltb (length order) n))
     where
       go : (b : Bool) → count j (cond b (order ++ (k ∷ [])) order) ≡ count j order
       go true = omega (arith, one-more j k order false (ne-eqb j k d))
       go false = refl
-  order-other (suc o) (suc m) j d = rw (ne-eqb (suc m) 0 (λ e. omega arith), ne-eqb (suc o) 0 (λ e. omega arith))
+  order-other (suc o) zero j d = rw (ne-eqb (suc o) 0 (λ e. omega arith)) (count-without-other k j order d)
+  order-other (suc o) (suc m) j d = rw (ne-eqb (suc o) 0 (λ e. omega arith), ne-eqb (suc m) 0 (λ e. omega arith))
+
+below-ended : (n k : ℕ) (graces : List ℕ) (on : Bool) → Below n graces → Below n (graceEnded graces k on)
+unfolding graceEnded
+below-ended n k graces true b = below-keep n (λ (x : ℕ). not (eqb k x)) graces b
+below-ended n k graces false b = b
 
 -- ---- a tag that has no tier finds room
 
@@ -66,17 +74,17 @@ module _ (T : Table) (l : Listed T) where
   order-room : (k : ℕ) → k < length (T .tags) → tagAt T k .tier ≡ 0 → length (T .order) < T .orderRoom
   order-room k h z = omega (arith, length-fewer (length (T .tags)) k (T .order) order-below order-once h (l .once k ∙ ap inTier z), l .enough)
 
-  -- Rule 5: a tag put in a tier at once.
-  pub listed-set : (k tier : ℕ) → k < length (T .tags) → Listed (setTable T k tier)
-  unfolding setTable tagSet
-  listed-set k tier h = record {
+  -- a tag put in a tier, with a grace or none
+  listed-put : (k tier : ℕ) (g : Grace) → k < length (T .tags) → Listed (putTable T k tier g)
+  unfolding putTable tagSet
+  listed-put k tier g h = record {
     once = λ j. go j (eqb j k) refl;
-    graced = rw (length-set (T .tags) k (tagSet (tagAt T k) (isBit T k) tier)) (below-keep _ _ (T .graces) (l .graced));
-    enough = rw (length-set (T .tags) k (tagSet (tagAt T k) (isBit T k) tier)) (l .enough);
+    graced = rw (length-set (T .tags) k x) (below-ended (length (T .tags)) k (T .graces) (tagAt T k .grace .on) (l .graced));
+    enough = rw (length-set (T .tags) k x) (l .enough);
   }
     where
       x : Tag
-      x = tagSet (tagAt T k) (isBit T k) tier
+      x = withGrace (tagSet (tagAt T k) (isBit T k) tier) g
 
       go : (j : ℕ) (b : Bool) → eqb j k ≡ b → count j (orderSet (T .orderRoom) (T .order) k (tagAt T k .tier) tier) ≡ inTier (getD (set (T .tags) k x) j freshTag .tier)
       go j true e =
@@ -85,6 +93,10 @@ module _ (T : Table) (l : Listed T) where
       go j false e =
           let d : j ≡ k → ⊥ = eqb-false j k e in
           order-other (T .orderRoom) k (T .order) (tagAt T k .tier) tier j d ∙ l .once j ∙ ap (λ (y : Tag). inTier (y .tier)) (sym (at-other (T .tags) k x j d))
+
+  -- Rule 5: a tag put in a tier at once.
+  pub listed-set : (k tier : ℕ) → k < length (T .tags) → Listed (setTable T k tier)
+  listed-set k tier h = listed-put k tier noGrace h
 
 -- a tag replaced by one in the same tier, and other graces
 listed-tag : (T : Table) → Listed T → (k : ℕ) (x : Tag) (graces : List ℕ) → k < length (T .tags) → x .tier ≡ tagAt T k .tier → Below (length (T .tags)) graces
@@ -111,17 +123,20 @@ either P true x y p q = p
 either P false x y p q = q
 
 module _ (T : Table) (l : Listed T) (k : ℕ) (h : k < length (T .tags)) where
+  pub put-long : (tier : ℕ) (g : Grace) → length (putTable T k tier g .tags) ≡ length (T .tags)
+  unfolding putTable
+  put-long tier g = length-set (T .tags) k (withGrace (tagSet (tagAt T k) (isBit T k) tier) g)
+
   pub set-long : (tier : ℕ) → length (setTable T k tier .tags) ≡ length (T .tags)
-  unfolding setTable
-  set-long tier = length-set (T .tags) k (tagSet (tagAt T k) (isBit T k) tier)
+  set-long tier = put-long tier noGrace
 
   pub listed-enter : (deadline : Float) (after : ℕ) → Listed (enterGrace T k deadline after)
   unfolding enterGrace
   listed-enter deadline after =
-      let m = setTable T k 2 in
-      let lm : Listed m = listed-set T l k 2 h in
-      let hm : k < length (m .tags) = rw (set-long 2) h in
-      listed-tag m lm k (withGrace (tagAt m k) (graceUntil deadline after)) (pushed (m .graceRoom) (m .graces) k) hm refl (below-pushed (length (m .tags)) (m .graceRoom) k (m .graces) (lm .graced) hm)
+      let m = putTable T k 2 (graceUntil deadline after) in
+      let lm : Listed m = listed-put T l k 2 (graceUntil deadline after) h in
+      let hm : k < length (m .tags) = rw (put-long 2 (graceUntil deadline after)) h in
+      record { once = lm .once; graced = below-pushed (length (m .tags)) (m .graceRoom) k (m .graces) (lm .graced) hm; enough = lm .enough }
 
   pub listed-change : (after : ℕ) → Listed (changeGrace T k after)
   listed-change after = listed-tag T l k (withGrace (tagAt T k) (graceUntil (tagAt T k .grace .deadline) after)) (T .graces) h refl (l .graced)

@@ -67,20 +67,28 @@ tagSet x bit tier = record {
   published = heldSet (x .published) tier;
 }
 
--- Rule 5: table order is order of entry. A tag that leaves is taken out, one that enters stands last, and one that is changed keeps its place.
+-- Rule 5: table order is order of entry. A tag that enters stands last, one that leaves is taken out, and one that is changed keeps its place.
 unfoldable pub orderSet : ℕ → List ℕ → ℕ → ℕ → ℕ → List ℕ
-orderSet n order k old new = cond (eqb new 0) (without k order) (cond (eqb old 0) (pushed n order k) order)
+orderSet n order k old new = cond (eqb old 0) (cond (eqb new 0) order (pushed n order k)) (cond (eqb new 0) (without k order) order)
 
--- Rule 5: the tag k put in a tier at once.
-unfoldable pub setTable : Table → ℕ → ℕ → Table
-setTable T k tier = record {
-  tags = set (T .tags) k (tagSet (tagAt T k) (isBit T k) tier);
+-- Rule 5: the graces after that of k, if it is in one, has ended.
+unfoldable pub graceEnded : List ℕ → ℕ → Bool → List ℕ
+graceEnded graces k on = cond on (without k graces) graces
+
+-- the tag k put in a tier, with a grace or none
+unfoldable pub putTable : Table → ℕ → ℕ → Grace → Table
+putTable T k tier g = record {
+  tags = set (T .tags) k (withGrace (tagSet (tagAt T k) (isBit T k) tier) g);
   order = orderSet (T .orderRoom) (T .order) k (tagAt T k .tier) tier;
-  graces = without k (T .graces);
+  graces = graceEnded (T .graces) k (tagAt T k .grace .on);
   orderRoom = T .orderRoom;
   graceRoom = T .graceRoom;
   words = T .words;
 }
+
+-- Rule 5: the tag k put in a tier at once; a grace ends.
+abbrev pub setTable : Table → ℕ → ℕ → Table
+setTable T k tier = putTable T k tier noGrace
 
 -- the table with one tag and the list of graces replaced
 abbrev pub withTagGraces : Table → ℕ → Tag → List ℕ → Table
@@ -92,8 +100,8 @@ graceUntil deadline after = record { on = true; deadline = deadline; after = aft
 -- Rule 5: the tag becomes tier 2 with a deadline; the tier `after` follows.
 unfoldable pub enterGrace : Table → ℕ → Float → ℕ → Table
 enterGrace T k deadline after =
-    let m = setTable T k 2 in
-    withTagGraces m k (withGrace (tagAt m k) (graceUntil deadline after)) (pushed (m .graceRoom) (m .graces) k)
+    let m = putTable T k 2 (graceUntil deadline after) in
+    record { tags = m .tags; order = m .order; graces = pushed (m .graceRoom) (m .graces) k; orderRoom = m .orderRoom; graceRoom = m .graceRoom; words = m .words }
 
 -- Rule 5: asked again in grace it changes only what follows.
 abbrev pub changedTags : List Tag → ℕ → ℕ → List Tag

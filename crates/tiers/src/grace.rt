@@ -1,36 +1,16 @@
 // Tier calls, and the graces of tags that leave tier 1.
 ghost use mathlib.Core.Path.{_≡_};
 ghost use Rattle.tiers.specs.Tiers.{tabled, enterGrace, changeGrace, changedTags, setTier};
-ghost use Rattle.table.specs.Table.{tableIn, withGrace};
+ghost use Rattle.table.specs.Table.{tableIn};
+use super::set::put;
 use super::set::set;
+use super::set::with_grace;
 use memory::tags::push;
 use table::fields::grace_of;
 use table::fields::tier_of;
 use table::put_tag;
 use table::tag::Grace;
-use table::tag::Tag;
 use table::tag_of;
-
-fn with_grace(x: Tag, g: Grace) -> Tag
-    ensures { λ r. ⌜ r ≡ withGrace x g ⌝ }
-{
-    let timing = x.timing;
-    let description = x.description;
-    let settings = x.settings;
-    let cached = x.cached;
-    let published = x.published;
-    Tag {
-        tier: x.tier,
-        grace: g,
-        timing: timing,
-        added: x.added,
-        wants: x.wants,
-        description: description,
-        settings: settings,
-        cached: cached,
-        published: published,
-    }
-}
 
 fn enter_grace(
     t: &mut [u8],
@@ -43,15 +23,12 @@ fn enter_grace(
 )
     ensures { λ _. ⌜ tabled (now (t .exit)) (now (order .exit)) (now (graces .exit)) (now (words .entry)) ≡ enterGrace (tabled (now (t .entry)) (now (order .entry)) (now (graces .entry)) (now (words .entry))) k deadline after ⌝ }
 {
-    set(t, order, graces, words, k, 2);
-    let x = tag_of(t, k as usize);
     let g = Grace {
         on: true,
         deadline: deadline,
         after: after,
     };
-    let y = with_grace(x, g);
-    put_tag(t, k as usize, y);
+    put(t, order, graces, words, k, 2, g);
     push(graces, k as usize);
 }
 

@@ -1,7 +1,8 @@
 // A tag put in a tier at once.
 ghost use mathlib.Core.Path.{_≡_};
 ghost use Rattle.memory.specs.Lists.{listIn, room};
-ghost use Rattle.tiers.specs.Tiers.{tabled, timingSet, addedSet, wantsSet, heldSet, tagSet, orderSet, setTable};
+ghost use Rattle.tiers.specs.Tiers.{tabled, timingSet, addedSet, wantsSet, heldSet, tagSet, orderSet, graceEnded, putTable, setTable};
+ghost use Rattle.table.specs.Table.{withGrace};
 use memory::halves::half;
 use memory::tags::push;
 use memory::tags::remove;
@@ -96,25 +97,76 @@ fn tag_set(x: Tag, bit: bool, tier: u8) -> Tag
     }
 }
 
+pub fn with_grace(x: Tag, g: Grace) -> Tag
+    ensures { λ r. ⌜ r ≡ withGrace x g ⌝ }
+{
+    let timing = x.timing;
+    let description = x.description;
+    let settings = x.settings;
+    let cached = x.cached;
+    let published = x.published;
+    Tag {
+        tier: x.tier,
+        grace: g,
+        timing: timing,
+        added: x.added,
+        wants: x.wants,
+        description: description,
+        settings: settings,
+        cached: cached,
+        published: published,
+    }
+}
+
 fn order_set(order: &mut [u8], k: u16, old: u8, new: u8)
     ensures { λ _. ⌜ listIn (now (order .exit)) ≡ orderSet (room (now (order .entry))) (listIn (now (order .entry))) k old new ⌝ }
 {
+    if old == 0 {
+        if new != 0 {
+            push(order, k as usize);
+        }
+        return;
+    }
     if new == 0 {
         remove(order, k as usize);
-    } else if old == 0 {
-        push(order, k as usize);
     }
+}
+
+fn end_grace(graces: &mut [u8], k: u16, on: bool)
+    ensures { λ _. ⌜ listIn (now (graces .exit)) ≡ graceEnded (listIn (now (graces .entry))) k on ⌝ }
+{
+    if on {
+        remove(graces, k as usize);
+    }
+}
+
+// The tag k put in a tier, with a grace or none.
+pub fn put(
+    t: &mut [u8],
+    order: &mut [u8],
+    graces: &mut [u8],
+    words: &[u8],
+    k: u16,
+    tier: u8,
+    g: Grace,
+)
+    ensures { λ _. ⌜ tabled (now (t .exit)) (now (order .exit)) (now (graces .exit)) (now (words .entry)) ≡ putTable (tabled (now (t .entry)) (now (order .entry)) (now (graces .entry)) (now (words .entry))) k tier g ⌝ }
+{
+    let at = k as usize;
+    let bit = half(words, at) != 0;
+    let x = tag_of(t, at);
+    let old = x.grace;
+    let set = tag_set(x, bit, tier);
+    let y = with_grace(set, g);
+    order_set(order, k, x.tier, tier);
+    end_grace(graces, k, old.on);
+    put_tag(t, at, y);
 }
 
 // The tag k put in a tier at once; 0 is none.
 pub fn set(t: &mut [u8], order: &mut [u8], graces: &mut [u8], words: &[u8], k: u16, tier: u8)
     ensures { λ _. ⌜ tabled (now (t .exit)) (now (order .exit)) (now (graces .exit)) (now (words .entry)) ≡ setTable (tabled (now (t .entry)) (now (order .entry)) (now (graces .entry)) (now (words .entry))) k tier ⌝ }
 {
-    let at = k as usize;
-    let bit = half(words, at) != 0;
-    let x = tag_of(t, at);
-    let y = tag_set(x, bit, tier);
-    order_set(order, k, x.tier, tier);
-    remove(graces, at);
-    put_tag(t, at, y);
+    let g = Grace::none();
+    put(t, order, graces, words, k, tier, g);
 }
