@@ -86,8 +86,9 @@ put "$out/new" "$tree/src/slices.rs"
 
 put "$here/driver/main.rs" "$tree/src/main.rs"
 put "$here/driver/worker_tests.rs" "$tree/src/worker_tests.rs"
-put "$here/driver/gen.rs" "$tree/src/gen.rs"
-put "$here/driver/leaves.rs" "$tree/src/leaves.rs"
+for f in gen names lists leaves; do
+    put "$here/driver/$f.rs" "$tree/src/$f.rs"
+done
 put "$here/Cargo.toml" "$tree/Cargo.toml"
 put "$here/ciplink/Cargo.toml" "$tree/ciplink/Cargo.toml"
 put "$here/ciplink/src/lib.rs" "$tree/ciplink/src/lib.rs"
