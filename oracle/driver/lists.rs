@@ -748,7 +748,9 @@ fn an_input(seed: u64) -> (Vec<u8>, Kind) {
 // ------------------------------------------------------------------------------------------ the program
 
 /// After this long without an end of its output a program is stopped.
-const PATIENCE: Duration = Duration::from_secs(120);
+const PATIENCE: Duration = Duration::from_secs(60);
+
+const UNENDED: &str = "it did not end";
 
 unsafe extern "C" {
     fn ioctl(fd: i32, request: u64, ...) -> i32;
@@ -823,7 +825,7 @@ fn printed(program: &str, input: &Arc<Vec<u8>>, pieces: Option<u64>) -> (Vec<u8>
         None => {
             let _ = child.kill();
             let _ = child.wait();
-            return (out.unwrap_or_default(), Some("it did not end".into()), 0);
+            return (out.unwrap_or_default(), Some(UNENDED.into()), 0);
         }
     };
     (out.unwrap_or_default(), wrong, writer.join().unwrap_or(0))
@@ -868,19 +870,53 @@ fn difference(program: &str, input: &Arc<Vec<u8>>, pieces: Option<u64>) -> Optio
     (got != want.as_bytes() || wrong.is_some()).then_some(Difference { want, got, wrong })
 }
 
+/// The lines without some names and their calls, the tags behind them renumbered.
+fn without_names(lines: &[Vec<u8>], from: u64, to: u64) -> Vec<Vec<u8>> {
+    let mut names = 0;
+    let kept = lines.iter().filter_map(|line| {
+        if line.starts_with(b"n ") {
+            names += 1;
+            return (names <= from || names > to).then(|| line.clone());
+        }
+        let text = std::str::from_utf8(line).unwrap_or("");
+        let words: Vec<&str> = text.trim_end().split(' ').collect();
+        match words[..] {
+            ["s", at, tag, tier] => match tag.parse::<u64>() {
+                Ok(t) if t >= to => Some(format!("s {at} {} {tier}\n", t - (to - from)).into_bytes()),
+                Ok(t) if t >= from => None,
+                _ => Some(line.clone()),
+            },
+            _ => Some(line.clone()),
+        }
+    });
+    kept.collect()
+}
+
 /// Fewer lines that still differ.
 fn shrunken(program: &str, input: &[u8], pieces: Option<u64>) -> Arc<Vec<u8>> {
     let begun = Instant::now();
-    let mut lines: Vec<&[u8]> = input.split_inclusive(|b| *b == b'\n').collect();
+    let mut lines: Vec<Vec<u8>> = input.split_inclusive(|b| *b == b'\n').map(<[u8]>::to_vec).collect();
+    // by turns runs of lines and runs of names, ever shorter ones
     let mut size = lines.len().div_ceil(2);
     while size > 0 {
-        let (mut i, mut dropped) = (0, false);
-        while i < lines.len() && begun.elapsed().as_secs() < 60 {
-            let less = [&lines[..i], &lines[(i + size).min(lines.len())..]].concat();
-            if difference(program, &Arc::new(less.concat()), pieces).is_some() {
-                (lines, dropped) = (less, true);
-            } else {
-                i += size;
+        let mut dropped = false;
+        for names in [false, true] {
+            let mut i = 0;
+            while begun.elapsed().as_secs() < 60 {
+                let count = if names { lines.iter().filter(|l| l.starts_with(b"n ")).count() } else { lines.len() };
+                if i >= count {
+                    break;
+                }
+                let end = (i + size).min(count);
+                let less = match names {
+                    true => without_names(&lines, i as u64, end as u64),
+                    false => [&lines[..i], &lines[end..]].concat(),
+                };
+                if difference(program, &Arc::new(less.concat()), pieces).is_some() {
+                    (lines, dropped) = (less, true);
+                } else {
+                    i = end;
+                }
             }
         }
         size = if size == 1 { usize::from(dropped) } else { size.div_ceil(2) };
@@ -901,7 +937,7 @@ pub(super) fn run(first: u64, count: u64, program: &str) {
     let mut ends: BTreeMap<End, u64> = BTreeMap::new();
     let (mut bytes, mut longest, mut answers) = (0u64, 0u64, 0u64);
     let (mut in_pieces, mut pieces) = (0u64, 0u64);
-    let mut differ = 0u64;
+    let (mut differ, mut unended) = (0u64, 0);
     for seed in first..first + count {
         let (input, kind) = an_input(seed);
         let length = input.len() as u64;
@@ -917,6 +953,11 @@ pub(super) fn run(first: u64, count: u64, program: &str) {
             continue;
         }
         differ += 1;
+        unended += u64::from(wrong.as_deref() == Some(UNENDED));
+        if unended > 2 {
+            println!("seed {seed}: for the third time it did not end; no more are tried");
+            std::process::exit(1);
+        }
         if differ > 10 {
             continue;
         }
