@@ -15,6 +15,8 @@ use std::sync::atomic::{AtomicI64, AtomicU64};
 
 #[path = "gen.rs"]
 mod generate;
+#[path = "inputs.rs"]
+mod inputs;
 #[cfg(feature = "leaves")]
 #[path = "leaves.rs"]
 mod leaves;
@@ -22,6 +24,9 @@ mod leaves;
 mod lists;
 #[path = "names.rs"]
 mod names;
+#[cfg(feature = "leaves")]
+#[path = "rounds.rs"]
+mod rounds;
 
 const PLC: &str = "plc";
 const CLOCK_LIMIT: f64 = 1e9;
@@ -1203,7 +1208,7 @@ const USAGE: &str = "\
 oracle gen SEED N [PROFILE] | replay [--inner] | batch FIRST COUNT N [PROFILE] | cases | bench [TAGS]
 oracle lister | lists SEED [COUNT PROGRAM]
 --single, with the first three: each outcome that fail_writes tells is an event of its own
-built with the leaves' archive also: leaves SEED COUNT";
+built with the leaves' archive also: leaves SEED COUNT | rounds [TAGS] [ROUNDS]";
 
 impl PlcWorker {
     /// The oracle's entry, here because this module is private to worker.rs.
@@ -1234,6 +1239,11 @@ impl PlcWorker {
             ["cases"] if known => cases(),
             #[cfg(feature = "leaves")]
             ["leaves", seed, count] if known => leaves::run(num(seed), num(count)),
+            #[cfg(feature = "leaves")]
+            ["rounds", ref rest @ ..] if known => {
+                let number = |k: usize, otherwise: usize| rest.get(k).map_or(otherwise, |t| num(t));
+                rounds::run(number(0, 120), number(1, 20_000));
+            }
             ["bench", ref rest @ ..] if known => bench(rest.first().map_or(120, |t| num(t))),
             _ => {
                 eprintln!("{USAGE}");
