@@ -27,7 +27,7 @@ pub(super) enum Kind {
     Tiny,
     /// Lines of no plan.
     Noise,
-    /// A megabyte of rounds.
+    /// Up to 100,000 rounds, about a megabyte.
     Long,
 }
 
@@ -202,12 +202,13 @@ impl Making {
         let most = match self.kind {
             Kind::Turns => Pace::Regular,
             Kind::Graces => self.r.of(&[Pace::Aimed, Pace::Aimed, Pace::Parts, Pace::Irregular]),
-            _ => {
-                let all = [Pace::Regular, Pace::Parts, Pace::Irregular, Pace::Aimed, Pace::Leaps];
-                self.r.of(&all)
-            }
+            Kind::Long => self.r.of(&[Pace::Regular, Pace::Regular, Pace::Parts, Pace::Irregular]),
+            _ => self.r.of(&[Pace::Regular, Pace::Parts, Pace::Irregular, Pace::Aimed, Pace::Leaps]),
         };
-        let other = if self.kind == Kind::Turns { self.r.of(&[0, 0, 30]) } else { 200 };
+        let other = match self.kind {
+            Kind::Turns | Kind::Long => self.r.of(&[0, 0, 30]),
+            _ => 200,
+        };
         for _ in 0..count {
             while self.r.chance(calls) {
                 self.call();
@@ -277,15 +278,11 @@ impl Making {
             }
             Kind::Long => {
                 let calls = r.of(&[0, 0, 10, 300]);
-                let mut bytes = 0;
-                while bytes < 1_000_000 {
-                    let from = self.lines.len();
-                    self.rounds(1000, calls);
-                    bytes += self.lines[from..].iter().map(|l| l.len() + 1).sum::<usize>();
-                }
+                let n = r.range(70_000, 100_000);
+                self.rounds(n, calls);
             }
             Kind::Turns => {
-                let n = r.range(20, 150);
+                let n = if r.chance(100) { r.range(300, 900) } else { r.range(20, 150) };
                 let calls = r.of(&[0, 0, 20, 100]);
                 self.rounds(n, calls);
             }
@@ -330,7 +327,7 @@ impl Making {
 /// Numbers that are none, and such as would pass for others where digits are lost.
 fn odd_number(r: &mut Rng, old: &str) -> String {
     let n: u128 = old.parse().unwrap_or(0);
-    match r.below(24) {
+    match r.below(26) {
         0 | 1 => String::new(),
         2 => format!("{n:016}"),
         3 => format!("{n:0width$}", width = r.range(17, 40) as usize),
@@ -353,6 +350,13 @@ fn odd_number(r: &mut Rng, old: &str) -> String {
         20 => format!("\t{n}"),
         21 => format!("{n:015}"),
         22 => "0".repeat(r.range(1, 16) as usize),
+        // what stands beside the digits
+        23 | 24 => {
+            let mut digits = old.as_bytes().to_vec();
+            let k = r.below(digits.len() as u64 + 1) as usize;
+            digits.insert(k, r.of(b"/:"));
+            String::from_utf8_lossy(&digits).into_owned()
+        }
         _ => n.wrapping_sub(1).to_string(),
     }
 }
@@ -393,8 +397,15 @@ fn a_length(r: &mut Rng) -> usize {
         2 => r.range(250, 260) as usize,
         3 => r.range(126, 130) as usize,
         4 => r.of(&[65_535, 65_536, 65_537, 8192]),
+        5 => r.of(&[64, 4096]),
         _ => r.range(43, 67) as usize,
     }
+}
+
+fn options_in(line: &[u8]) -> Option<[u64; 3]> {
+    let rest = std::str::from_utf8(line).ok()?.strip_prefix("o ")?;
+    let numbers: Vec<u64> = rest.split(' ').map_while(|t| t.parse().ok()).collect();
+    numbers.try_into().ok()
 }
 
 /// One thing wrong, or at least odd. `tags` is how many there are.
@@ -458,10 +469,20 @@ fn damage(r: &mut Rng, lines: &mut Vec<Vec<u8>>, tags: u64) {
                 }
             }
         }
-        7 | 8 => {
-            let length = a_length(r).max(lines[i].len());
+        // too long: a line that is good as far as it goes, or from some place on
+        7 => {
+            let length = a_length(r);
             let fill = r.of(b"0x 9.");
+            if let Some([a, b, c]) = options_in(&lines[i]) {
+                lines[i] = format!("o {a:015} {b:015} {c:015}").into_bytes();
+            }
+            let length = length.max(lines[i].len() + 1);
             lines[i].resize(length, fill);
+        }
+        8 => {
+            let length = a_length(r) + r.of(&[0, lines[i].len()]);
+            let fill = vec![r.of(b"0x 9."); length.saturating_sub(lines[i].len())];
+            lines[i].splice(0..0, fill);
         }
         // in the lines
         9 => lines.insert(i, Vec::new()),

@@ -210,7 +210,8 @@ unsafe extern "C" {
 
 const FIONREAD: u64 = 0x541b;
 
-/// Hands an input over, whole or, from a seed, in pieces of which each is waited for until it was read; how many.
+/// Hands an input over, whole or, with a seed, in random pieces, each after the last was read (or a while has passed);
+/// how many pieces.
 fn hand_over(mut to: ChildStdin, input: &[u8], pieces: Option<u64>) -> u64 {
     let Some(seed) = pieces else {
         let _ = to.write_all(input);

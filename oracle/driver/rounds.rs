@@ -394,6 +394,7 @@ fn time_rounds(names: &[String], what: &str, tiers: Tiers, rounds: usize) -> usi
 }
 
 pub(super) fn run(count: usize, rounds: usize) {
+    assert!((1..65536).contains(&count) && rounds > 0, "1 to 65535 tags, 1 or more rounds");
     let names = some_names(count);
     let calls = rounds * 10;
     println!(
