@@ -1,6 +1,6 @@
 //! `oracle rounds [TAGS] [ROUNDS]`: `set_tier` and `cycle_tags` of the Rust and those of the Rattle library, from its
 //! archive, on the same table. In each case the two go through the same calls; the lists, ticks and boundaries of the
-//! first rounds are compared, then both are timed by turns.
+//! first rounds are compared, then both are timed by turns, in processor time of this thread.
 
 use super::generate::Rng;
 use super::*;
@@ -272,6 +272,14 @@ const REPETITIONS: usize = 9;
 const CYCLE: f64 = 1.0;
 const PERIOD: f64 = 10.0;
 
+/// Processor time of this thread so far. Others' work on the machine doesn't count, as it would in time passed.
+fn used() -> Duration {
+    const THREAD: i32 = 3;
+    let mut at = Timespec { sec: 0, nsec: 0 };
+    assert_eq!(unsafe { clock_gettime(THREAD, &mut at) }, 0);
+    Duration::new(at.sec as u64, at.nsec as u32)
+}
+
 /// The best time of several repetitions in nanoseconds, the two by turns.
 #[derive(Clone, Copy)]
 struct Best(f64, f64);
@@ -304,16 +312,16 @@ fn time_set_tier(names: &[String], what: &str, grace: f64, calls: usize) {
     let some: Vec<(usize, u8)> = (0..calls).map(|_| (r.below(names.len() as u64) as usize, r.below(4) as u8)).collect();
     let mut best = Best::new();
     for _ in 0..REPETITIONS {
-        let begun = Instant::now();
+        let begun = used();
         for (tag, tier) in &some {
             both.rust_set(*tag, *tier);
         }
-        let rust = begun.elapsed();
-        let begun = Instant::now();
+        let rust = used() - begun;
+        let begun = used();
         for (tag, tier) in &some {
             both.ours.set_tier(*tag, *tier, both.now);
         }
-        best.take(rust, begun.elapsed(), calls);
+        best.take(rust, used() - begun, calls);
         if !both.same_tables() {
             differs(what, "the tables are not the same");
         }
@@ -361,7 +369,7 @@ fn time_rounds(names: &[String], what: &str, tiers: Tiers, rounds: usize) -> usi
     for _ in 0..REPETITIONS {
         let from = both.now;
         let (mut rust_listed, mut ours_listed) = (0, 0);
-        let begun = Instant::now();
+        let begun = used();
         let mut now = from;
         for i in 0..rounds {
             if tiers == Tiers::Changing {
@@ -371,8 +379,8 @@ fn time_rounds(names: &[String], what: &str, tiers: Tiers, rounds: usize) -> usi
             rust_listed += black_box(both.rust_round(now)).0.len();
             now += step;
         }
-        let rust = begun.elapsed();
-        let begun = Instant::now();
+        let rust = used() - begun;
+        let begun = used();
         now = from;
         for i in 0..rounds {
             if tiers == Tiers::Changing {
@@ -383,7 +391,7 @@ fn time_rounds(names: &[String], what: &str, tiers: Tiers, rounds: usize) -> usi
             ours_listed += half(&both.ours.list, 0);
             now += step;
         }
-        best.take(rust, begun.elapsed(), rounds);
+        best.take(rust, used() - begun, rounds);
         both.now = now;
         if rust_listed != ours_listed || !both.same_tables() {
             differs(what, "after the rounds that were timed");
