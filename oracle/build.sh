@@ -3,7 +3,7 @@
 #   FOLDER  the Rust's sources: has crates/ciplink-server/src/worker.rs and the files beside it, or the same files as
 #           src--crates--ciplink-server--src--worker.rs.txt (default: ../shared/docs/src, seen from the repository's top)
 #   OUT     where to build (default: target/oracle in the repository); the program is $OUT/oracle
-#   LEAVES  an archive of the leaves (libleaves.a): the program then has the command `leaves`
+#   LEAVES  an archive of the leaves (libleaves.a): the program then has the commands `leaves` and `rounds`
 set -eu
 here=$(cd "$(dirname "$0")" && pwd)
 top=$(dirname "$here")
@@ -86,8 +86,9 @@ put "$out/new" "$tree/src/slices.rs"
 
 put "$here/driver/main.rs" "$tree/src/main.rs"
 put "$here/driver/worker_tests.rs" "$tree/src/worker_tests.rs"
-put "$here/driver/gen.rs" "$tree/src/gen.rs"
-put "$here/driver/leaves.rs" "$tree/src/leaves.rs"
+for f in gen names inputs lists leaves rounds; do
+    put "$here/driver/$f.rs" "$tree/src/$f.rs"
+done
 put "$here/Cargo.toml" "$tree/Cargo.toml"
 put "$here/ciplink/Cargo.toml" "$tree/ciplink/Cargo.toml"
 put "$here/ciplink/src/lib.rs" "$tree/ciplink/src/lib.rs"

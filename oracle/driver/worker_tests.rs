@@ -15,9 +15,18 @@ use std::sync::atomic::{AtomicI64, AtomicU64};
 
 #[path = "gen.rs"]
 mod generate;
+#[path = "inputs.rs"]
+mod inputs;
 #[cfg(feature = "leaves")]
 #[path = "leaves.rs"]
 mod leaves;
+#[path = "lists.rs"]
+mod lists;
+#[path = "names.rs"]
+mod names;
+#[cfg(feature = "leaves")]
+#[path = "rounds.rs"]
+mod rounds;
 
 const PLC: &str = "plc";
 const CLOCK_LIMIT: f64 = 1e9;
@@ -1196,9 +1205,10 @@ fn replay_text(text: &str, single: bool) -> String {
 // ------------------------------------------------------------------------------------------ the program
 
 const USAGE: &str = "\
-oracle gen SEED N [PROFILE] | replay [--inner] | batch FIRST COUNT N [PROFILE] | lister | cases | bench [TAGS]
+oracle gen SEED N [PROFILE] | replay [--inner] | batch FIRST COUNT N [PROFILE] | cases | bench [TAGS]
+oracle lister | lists SEED [COUNT PROGRAM]
 --single, with the first three: each outcome that fail_writes tells is an event of its own
-built with the leaves' archive also: leaves SEED COUNT";
+built with the leaves' archive also: leaves SEED COUNT | rounds [TAGS] [ROUNDS]";
 
 impl PlcWorker {
     /// The oracle's entry, here because this module is private to worker.rs.
@@ -1223,10 +1233,17 @@ impl PlcWorker {
             ["batch", first, count, n, ref rest @ ..] if known => {
                 batch(num(first), num(count), num(n), &profile(rest), manner.single);
             }
-            ["lister"] if known => lister(),
+            ["lister"] if known => lists::lister(),
+            ["lists", seed] if known => lists::show(num(seed)),
+            ["lists", seed, count, program] if known => lists::run(num(seed), num(count), program),
             ["cases"] if known => cases(),
             #[cfg(feature = "leaves")]
             ["leaves", seed, count] if known => leaves::run(num(seed), num(count)),
+            #[cfg(feature = "leaves")]
+            ["rounds", ref rest @ ..] if known => {
+                let number = |k: usize, otherwise: usize| rest.get(k).map_or(otherwise, |t| num(t));
+                rounds::run(number(0, 120), number(1, 20_000));
+            }
             ["bench", ref rest @ ..] if known => bench(rest.first().map_or(120, |t| num(t))),
             _ => {
                 eprintln!("{USAGE}");
@@ -1394,86 +1411,6 @@ fn plain(names: &[String], cycle: f64, period: f64, grace: f64) -> Head {
     }
 }
 
-/// Document 01's round lister, on the Rust's `set_tier` and `cycle_tags`.
-fn lister() {
-    let mut text = Vec::new();
-    std::io::Read::read_to_end(&mut std::io::stdin().lock(), &mut text).expect("input");
-    let mut out = String::from("ms b n tags\n");
-    list_rounds(&text, &mut out);
-    let _ = std::io::stdout().write_all(out.as_bytes());
-}
-
-fn list_rounds(text: &[u8], out: &mut String) -> Option<()> {
-    fn number(t: &str) -> Option<u64> {
-        ((1..=15).contains(&t.len()) && t.bytes().all(|b| b.is_ascii_digit())).then(|| t.parse().ok()).flatten()
-    }
-    let mut options: Option<(f64, f64, f64)> = None;
-    let mut names: Vec<String> = Vec::new();
-    let mut worker: Option<Arc<PlcWorker>> = None;
-    let mut last = 0.0f64;
-    for line in text.split_inclusive(|b| *b == b'\n') {
-        let line = line.strip_suffix(b"\n")?; // a line without its feed is of another form
-        let line = std::str::from_utf8(line).ok()?;
-        let words: Vec<&str> = line.split(' ').collect();
-        match words[..] {
-            ["o", c, p, g] if options.is_none() => {
-                let s = |t| Some(number(t)? as f64 / 1000.0);
-                let (c, p, g) = (s(c)?, s(p)?, s(g)?);
-                if !(c == 0.0 || (0.001..=3600.0).contains(&c)) || p > 86400.0 || g > 86400.0 {
-                    return None;
-                }
-                options = Some((c, p, g));
-            }
-            ["n", name] if options.is_some() && worker.is_none() => {
-                let good = (1..=40).contains(&name.len())
-                    && name.bytes().all(|b| (33..=126).contains(&b))
-                    && names.len() < 120
-                    && names.last().is_none_or(|l| l.as_str() < name);
-                good.then_some(())?;
-                names.push(name.to_owned());
-            }
-            ["s" | "c", ref rest @ ..] if options.is_some() => {
-                let (c, p, g) = options?;
-                if names.is_empty() {
-                    return None;
-                }
-                let w = Arc::clone(worker.get_or_insert_with(|| make(&plain(&names, c, p, g))));
-                let ms = number(rest.first()?)?;
-                let now = ms as f64 / 1000.0;
-                let refused = now > CLOCK_LIMIT || now < last;
-                match (words[0], rest) {
-                    ("s", [_, tag, tier]) => {
-                        let (tag, tier) = (number(tag)?, number(tier)?);
-                        if refused || tag as usize >= names.len() || tier > 3 {
-                            return None;
-                        }
-                        last = now;
-                        CLOCK.store(now.to_bits(), Ordering::Relaxed);
-                        w.set_tier(&names[tag as usize], (tier > 0).then_some(tier as u8));
-                    }
-                    ("c", [_]) => {
-                        if refused {
-                            return None;
-                        }
-                        last = now;
-                        CLOCK.store(now.to_bits(), Ordering::Relaxed);
-                        let (tags, _, boundary) = w.shared.cycle_tags(&mut lock(&w.shared.inner), now);
-                        let _ = write!(out, "{ms} {} {}", u8::from(boundary), tags.len());
-                        for tag in tags {
-                            let at = names.binary_search(&tag).expect("a tag");
-                            let _ = write!(out, " {at}");
-                        }
-                        out.push('\n');
-                    }
-                    _ => return None,
-                }
-            }
-            _ => return None,
-        }
-    }
-    Some(())
-}
-
 /// Document 01's cases at the edges, as far as they touch the worker.
 fn cases() {
     let mut failed = 0;
@@ -1559,10 +1496,8 @@ fn cases() {
         let seen: Vec<String> = [5.5, 14.0, 14.5, 15.0].iter().map(|now| format!("{now}:{}", asked(*now))).collect();
         check("missing at start 5.0".into(), seen.join(" "), "5.5:false 14:false 14.5:false 15:true");
     }
-    let mut out = String::from("ms b n tags\n");
-    list_rounds(
+    let out = lists::listed(
         b"o 1000 3000 0\nn A\nn C\nn b\nn d\ns 0 0 1\ns 0 1 2\ns 0 2 2\ns 0 3 2\nc 0\nc 400\nc 500\nc 1500\nc 2500\n",
-        &mut out,
     );
     check(
         "round lister".into(),

@@ -1,0 +1,17 @@
+#!/bin/sh
+# Times tier calls and rounds, the Rust's and ours: rounds.sh [FOLDER] [TAGS] [ROUNDS]
+#   FOLDER  the Rust's sources, as for build.sh
+#   TAGS, ROUNDS  how many tags (default 120), and how many rounds a repetition (default 20000)
+#   OUT     as for build.sh
+#   LEAVES  an archive to time instead of the one that `rt staticlib leaves` proves and writes
+set -eu
+here=$(cd "$(dirname "$0")" && pwd)
+top=$(dirname "$here")
+folder=${1:-$top/../shared/docs/src}
+archive=${LEAVES:-}
+if [ -z "$archive" ]; then
+    (cd "$top" && rt staticlib leaves)
+    archive=$top/target/staticlib/libleaves.a
+fi
+program=$(LEAVES=$archive "$here/build.sh" "$folder")
+exec "$program" rounds "${2:-120}" "${3:-20000}"
