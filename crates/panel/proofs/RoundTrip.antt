@@ -5,21 +5,23 @@ use mathlib.Core.List.{List, map, [], _∷_, _++_, append-assoc, append-nil}
 use Prim.Native.Nat.{ℕ, zero, suc, _+_, _%_, _≤_, _<_}
 use native.Mathlib.Nat.{mod-eq-of-lt}
 use native.Mathlib.Omega.{arith}
-use borrow.Author.Tests.{eqb-true, eqb-false, eq-eqb, ne-eqb, lt-ltb, ltb-true, ltb-false}
+use borrow.Author.Tests.{eqb-true, eq-eqb, ne-eqb, lt-ltb, ltb-true, ltb-false, le-ltb, lt-leb}
 use lib.Dec.{eqb, ltb}
 use lib.Ieee.{Float, le}
-use lib.ListN.{length, getD, set, take, drop, length-append, length-map, length-set}
+use lib.ListN.{length, take, drop, length-append, length-map, length-set}
 use lib.Seq.{take-at, drop-at, take-all, getD-set-same, getD-set-other}
 use Rattle.lists.specs.Keep.{count, Below}
-use Rattle.lists.proofs.KeepLaws.{below-more}
+use Rattle.lists.proofs.KeepLaws.{below-more, count-append}
 use Rattle.lists.proofs.CountLaws.{length-few}
-use Rattle.memory.proofs.ListLaws.{pushed-more}
+use Rattle.memory.specs.Lists.{member}
 use Rattle.table.specs.Tag.{f0, freshTag}
 use Rattle.table.specs.declared.tag.Tag.{Tag}
 use Rattle.tiers.specs.Tiers.{Table, tagAt, isBit, tagSet, orderSet, setTable, setTier}
 use Rattle.tiers.specs.Listed.{inTier, Listed}
 use Rattle.tiers.proofs.ListedLaws.{order-below}
-use Rattle.panel.specs.Panel.{tierIn, panelOf, tagsOf, tiersOf, loaded, loadedList, Empty}
+use Rattle.panel.specs.Panel.{tierIn, panelOf, panelRoom, countIn, tagsOf, tiersOf, badTier, entryCheck, panelCheck, loaded, loadedList, Empty}
+use Rattle.panel.proofs.PanelLaws.{form-good}
+use Rattle.panel.proofs.WriteLaws.{length-panel, panel-count}
 
 -- ---- the parts of a written list
 
@@ -197,3 +199,47 @@ module _ (T F : Table) (l : Listed T) (empty : Empty F) (same : length (F .tags)
         go false e =
             let z : count k (T .order) ≡ 0 = omega (arith, ltb-false 0 (count k (T .order)) e) in
             all-entered .others k z ∙ empty .none k ∙ sym (in-none (tagAt T k .tier) (sym (l .once k) ∙ z))
+
+-- ---- a written list is accepted
+
+member-none : (k : ℕ) (l : List ℕ) → count k l ≡ 0 → member k l ≡ false
+member-none k [] z = refl
+member-none k (x ∷ l) z = go (eqb k x) refl z (member-none k l)
+  where
+    go : (b : Bool) → eqb k x ≡ b → cond (eqb k x) 1 0 + count k l ≡ 0 → (count k l ≡ 0 → member k l ≡ false) → cond (eqb k x) true (member k l) ≡ false
+    go true e z again = absurd (omega (arith, rw e at z))
+    go false e z again = rw e (again (omega (arith, rw e at z)))
+
+good-tier : (n : ℕ) → (n ≡ 0 → ⊥) → n ≤ 3 → badTier n ≡ false
+good-tier n h g = rw (ne-eqb n 0 h, le-ltb 3 n g)
+
+all-good : (n : ℕ) (f : ℕ → ℕ) (seen ks : List ℕ) → Below n ks → ((j : ℕ) → count j seen + count j ks ≤ 1) → ((j : ℕ) → 0 < count j ks → badTier (f j) ≡ false)
+    → entryCheck n seen ks (map f ks) ≡ 0
+unfolding entryCheck
+all-good n f seen [] b once good = refl
+all-good n f seen (k ∷ ks) b once good =
+    let new : count k seen ≡ 0 = omega (arith, once k, count-head k ks) in
+    rw (lt-leb n k (b .0), member-none k seen new, good k (omega (arith, count-head k ks)))
+    (all-good n f (seen ++ (k ∷ [])) ks (b .1) (λ j. omega (arith, once j, count-append j seen (k ∷ []))) (λ j h. good j (omega (arith, count-tail j k ks))))
+
+-- Checks 51 to 55: what is written from a listed table whose tags have tiers up to 3 passes them for its directory.
+pub accepted : (T : Table) → Listed T → ((k : ℕ) → tagAt T k .tier ≤ 3) → length (T .tags) < 256 → panelCheck (length (T .tags)) (panelOf (T .tags) (T .order)) ≡ 0
+accepted T l most fits =
+    let once : (j : ℕ) → count j (T .order) ≤ 1 = λ j. omega (arith, l .once j, few-in (tagAt T j .tier)) in
+    let short : length (T .order) ≤ length (T .tags) = length-few (length (T .tags)) (T .order) (order-below T l) once in
+    let few : length (T .order) < 256 = omega arith in
+    let low : Below 256 (T .order) = below-more (length (T .tags)) 256 (T .order) (omega arith) (order-below T l) in
+    let long = length-panel (T .tags) (T .order) in
+    let size : length (panelOf (T .tags) (T .order)) ≡ panelRoom (countIn (panelOf (T .tags) (T .order))) =
+    long ∙ ap panelRoom (sym (mod-eq-of-lt few) ∙ panel-count (T .tags) (T .order) 0 refl)
+    in
+    sym (form-good (length (T .tags)) (panelOf (T .tags) (T .order)) (λ e. omega arith) size)
+    ∙ rw (tags-written (T .tags) (T .order) few low, tiers-written (T .tags) (T .order) few low)
+    (all-good
+    (length (T .tags))
+    (tierIn (T .tags))
+    []
+    (T .order)
+    (order-below T l)
+    (λ j. omega (arith, once j))
+    (λ j h. good-tier (tagAt T j .tier) (in-some (tagAt T j .tier) (omega (arith, l .once j))) (most j)))

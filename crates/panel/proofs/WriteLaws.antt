@@ -1,14 +1,14 @@
 -- The bytes of a written panel list.
 use mathlib.Core.Path.{_≡_, refl, ap, sym, _∙_}
 use mathlib.Core.List.{List, map, [], _∷_, _++_}
-use Prim.Native.Nat.{ℕ, zero, suc, _+_, _*_, _-_, _%_, _≤_, _<_}
+use Prim.Native.Nat.{ℕ, zero, suc, _+_, _-_, _%_, _≤_, _<_}
 use native.Mathlib.Nat.{zero-add}
 use native.Mathlib.Omega.{arith}
 use borrow.Author.Tests.{le-leb, lt-leb}
-use lib.ListN.{length, getD, take, drop, length-append, length-map, List·getD-eq-default, List·getD-append, List·getD-map}
+use lib.ListN.{length, getD, drop, length-append, length-map, List·getD-eq-default, List·getD-append}
 use lib.Seq.{paste, take-all, getD-append-add}
 use Rattle.table.specs.declared.tag.Tag.{Tag}
-use Rattle.panel.specs.Panel.{tierIn, entriesIn, panelOf, panelRoom, written, writtenLength}
+use Rattle.panel.specs.Panel.{tierIn, panelOf, panelRoom, written, writtenLength}
 
 -- within a list the default is not read
 map-at : (f : ℕ → ℕ) (l : List ℕ) (i d : ℕ) → i < length l → getD (map f l) i d ≡ f (getD l i 0)
