@@ -1,0 +1,5 @@
+// Rule 11: the panel list, checked, loaded and written.
+mod form; // where tags and tiers stand in a list
+pub mod check;
+pub mod load;
+pub mod write;
