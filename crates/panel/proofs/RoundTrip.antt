@@ -14,9 +14,10 @@ use Rattle.lists.specs.Keep.{count, Below}
 use Rattle.lists.proofs.KeepLaws.{below-more, count-append}
 use Rattle.lists.proofs.CountLaws.{length-few}
 use Rattle.memory.specs.Lists.{member}
-use Rattle.table.specs.Tag.{f0, freshTag}
+use Rattle.table.specs.Tag.{f0, freshTag, noGrace}
 use Rattle.table.specs.declared.tag.Tag.{Tag}
-use Rattle.tiers.specs.Tiers.{Table, tagAt, isBit, tagSet, orderSet, setTable, setTier}
+use Rattle.table.specs.Table.{withGrace}
+use Rattle.tiers.specs.Tiers.{Table, tagAt, isBit, tagSet, orderSet, putTable, setTable, setTier}
 use Rattle.tiers.specs.Listed.{inTier, Listed}
 use Rattle.tiers.proofs.ListedLaws.{order-below}
 use Rattle.panel.specs.Panel.{tierIn, panelOf, panelRoom, countIn, tagsOf, tiersOf, badTier, entryCheck, panelCheck, loaded, loadedList, Empty}
@@ -60,23 +61,23 @@ at-once T k tier grace clock z off = rw (z, off) (all (eqb tier 1) (eqb tier 2) 
 
 module _ (T : Table) (k tier : ℕ) where
   order-put : tagAt T k .tier ≡ 0 → (tier ≡ 0 → ⊥) → length (T .order) < T .orderRoom → setTable T k tier .order ≡ T .order ++ (k ∷ [])
-  unfolding setTable orderSet
+  unfolding putTable orderSet
   order-put z n free = rw (z, ne-eqb tier 0 n, lt-ltb _ _ free)
 
   tags-long : length (setTable T k tier .tags) ≡ length (T .tags)
-  unfolding setTable
-  tags-long = length-set (T .tags) k (tagSet (tagAt T k) (isBit T k) tier)
+  unfolding putTable
+  tags-long = length-set (T .tags) k (withGrace (tagSet (tagAt T k) (isBit T k) tier) noGrace)
 
   tier-same : k < length (T .tags) → tagAt (setTable T k tier) k .tier ≡ tier
-  unfolding setTable tagSet
-  tier-same h = ap (λ (x : Tag). x .tier) (getD-set-same (T .tags) k (tagSet (tagAt T k) (isBit T k) tier) freshTag h)
+  unfolding putTable tagSet
+  tier-same h = ap (λ (x : Tag). x .tier) (getD-set-same (T .tags) k (withGrace (tagSet (tagAt T k) (isBit T k) tier) noGrace) freshTag h)
 
   tag-other : (j : ℕ) → (j ≡ k → ⊥) → tagAt (setTable T k tier) j ≡ tagAt T j
-  unfolding setTable
-  tag-other j n = getD-set-other (T .tags) k j (tagSet (tagAt T k) (isBit T k) tier) freshTag n
+  unfolding putTable
+  tag-other j n = getD-set-other (T .tags) k j (withGrace (tagSet (tagAt T k) (isBit T k) tier) noGrace) freshTag n
 
   room-same : setTable T k tier .orderRoom ≡ T .orderRoom
-  unfolding setTable
+  unfolding putTable
   room-same = refl
 
 -- ---- the tier calls of a list
