@@ -212,7 +212,7 @@ member-none k (x ∷ l) z = go (eqb k x) refl z (member-none k l)
     go false e z again = rw e (again (omega (arith, rw e at z)))
 
 good-tier : (n : ℕ) → (n ≡ 0 → ⊥) → n ≤ 3 → badTier n ≡ false
-good-tier n h g = rw (ne-eqb n 0 h, le-ltb 3 n g)
+good-tier n h g = rw (le-ltb 3 n g, ne-eqb n 0 h)
 
 all-good : (n : ℕ) (f : ℕ → ℕ) (seen ks : List ℕ) → Below n ks → ((j : ℕ) → count j seen + count j ks ≤ 1) → ((j : ℕ) → 0 < count j ks → badTier (f j) ≡ false)
     → entryCheck n seen ks (map f ks) ≡ 0

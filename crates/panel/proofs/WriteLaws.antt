@@ -21,9 +21,8 @@ module _ (tags : List Tag) (order : List ℕ) where
   low = map (λ (k : ℕ). k % 256) order
 
   pub length-panel : length (panelOf tags order) ≡ panelRoom (length order)
-  unfolding panelOf low
-  length-panel =
-      omega (arith, length-append low (map (tierIn tags) order), length-map order (λ (k : ℕ). k % 256), length-map order (tierIn tags))
+  unfolding panelOf
+  length-panel = simp (length-append, length-map) (omega arith)
 
   pub panel-count : (p : ℕ) → p ≡ 0 → length order % 256 ≡ getD (panelOf tags order) p 0
   unfolding panelOf

@@ -1,5 +1,5 @@
 -- Rule 11 and checks 51 to 55: the panel list.
-use mathlib.Core.Bool.{Bool, false, cond, _||_, not}
+use mathlib.Core.Bool.{Bool, true, false, cond, _||_, not}
 use mathlib.Core.List.{List, map, [], _∷_, _++_}
 use mathlib.Core.Path.{_≡_}
 use Prim.Native.Nat.{ℕ, _+_, _*_, _%_}
@@ -53,7 +53,7 @@ badForm s = eqb (length s) 0 || not (eqb (length s) (panelRoom (countIn s)))
 
 -- Check 55: tier not 1 to 3
 abbrev pub badTier : ℕ → Bool
-badTier tier = eqb tier 0 || ltb 3 tier
+badTier tier = ltb 3 tier || eqb tier 0
 
 -- Checks 53 to 55: at the first bad entry, lowest number met: no such tag in a directory of `count` names, tag seen earlier, tier not 1 to 3; else 0
 unfoldable pub entryCheck : ℕ → List ℕ → List ℕ → List ℕ → ℕ
@@ -81,3 +81,7 @@ pub record Empty (T : Table) : Type 0 where
   pub none : (k : ℕ) → tagAt T k .tier ≡ 0
   pub calm : (k : ℕ) → tagAt T k .grace .on ≡ false
   pub order-none : T .order ≡ []
+
+-- Rule 11: a tag in grace is stored as tier 2, its tier in the table
+abbrev pub Graced : Table → Type 0
+Graced T = (k : ℕ) → tagAt T k .grace .on ≡ true → tagAt T k .tier ≡ 2

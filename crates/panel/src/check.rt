@@ -28,10 +28,10 @@ fn seen(list: &[u8], k: u8, n: usize) -> bool
 fn bad_tier(tier: u8) -> bool
     ensures { λ r. ⌜ r ≡ badTier tier ⌝ }
 {
-    if tier == 0 {
+    if 3 < tier {
         return true;
     }
-    3 < tier
+    tier == 0
 }
 
 // The first bad entry decides, and there the lowest number.
