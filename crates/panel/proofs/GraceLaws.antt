@@ -6,12 +6,12 @@ use Prim.Native.Nat.{ℕ, _<_}
 use borrow.Author.Tests.{eqb-true, eqb-false}
 use lib.Dec.{eqb}
 use lib.Ieee.{Float, le, add, binary64}
-use lib.ListN.{length, getD, set, length-set}
+use lib.ListN.{length, getD, set}
 use lib.Seq.{getD-set-same, getD-set-other}
-use Rattle.table.specs.Tag.{f0, freshTag}
+use Rattle.table.specs.Tag.{f0, noGrace, freshTag}
 use Rattle.table.specs.Table.{withGrace}
 use Rattle.table.specs.declared.tag.Tag.{Tag}
-use Rattle.tiers.specs.Tiers.{Table, tagAt, isBit, tagSet, setTable, graceUntil, enterGrace, changeGrace, setTier}
+use Rattle.tiers.specs.Tiers.{Table, tagAt, isBit, tagSet, putTable, setTable, graceUntil, enterGrace, changeGrace, setTier}
 use Rattle.panel.specs.Panel.{Graced}
 
 -- one tag replaced by one that is in tier 2 if it is in grace
@@ -35,16 +35,13 @@ either false x y p q = q refl
 
 module _ (T : Table) (g : Graced T) (k : ℕ) (h : k < length (T .tags)) where
   graced-set : (tier : ℕ) → Graced (setTable T k tier)
-  unfolding setTable tagSet
-  graced-set tier = put T (setTable T k tier) k (tagSet (tagAt T k) (isBit T k) tier) h refl (λ e. absurd (true≢false (sym e))) g
+  unfolding putTable tagSet
+  graced-set tier = put T (setTable T k tier) k (withGrace (tagSet (tagAt T k) (isBit T k) tier) noGrace) h refl (λ e. absurd (true≢false (sym e))) g
 
   graced-enter : (deadline : Float) (after : ℕ) → Graced (enterGrace T k deadline after)
-  unfolding enterGrace setTable tagSet
+  unfolding enterGrace putTable tagSet
   graced-enter deadline after =
-      let m = setTable T k 2 in
-      let x = tagSet (tagAt T k) (isBit T k) 2 in
-      put m (enterGrace T k deadline after) k (withGrace (tagAt m k) (graceUntil deadline after)) (rw (length-set (T .tags) k x) h) refl
-      (λ e. ap (λ (y : Tag). y .tier) (getD-set-same (T .tags) k x freshTag h)) (graced-set 2)
+      put T (enterGrace T k deadline after) k (withGrace (tagSet (tagAt T k) (isBit T k) 2) (graceUntil deadline after)) h refl (λ e. refl) g
 
   graced-change : (after : ℕ) → tagAt T k .grace .on ≡ true → Graced (changeGrace T k after)
   graced-change after on = put T (changeGrace T k after) k (withGrace (tagAt T k) (graceUntil (tagAt T k .grace .deadline) after)) h refl (λ e. g k on) g

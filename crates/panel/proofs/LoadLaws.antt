@@ -9,9 +9,9 @@ use lib.ListN.{length, length-set}
 use Rattle.lists.specs.Keep.{Below}
 use Rattle.table.specs.Tag.{f0}
 use Rattle.table.specs.Table.{withGrace}
-use Rattle.tiers.specs.Tiers.{Table, tagAt, setTable, graceUntil, enterGrace, changeGrace, setTier}
+use Rattle.tiers.specs.Tiers.{Table, tagAt, graceUntil, enterGrace, changeGrace, setTier}
 use Rattle.tiers.specs.Listed.{Listed}
-use Rattle.tiers.proofs.ListedLaws.{set-long, listed-tier}
+use Rattle.tiers.proofs.ListedLaws.{put-long, set-long, listed-tier}
 use Rattle.panel.specs.Panel.{loaded, Graced}
 use Rattle.panel.proofs.GraceLaws.{graced-tier}
 
@@ -22,9 +22,7 @@ either n false x y p q = q
 module _ (T : Table) (l : Listed T) (k : ℕ) (h : k < length (T .tags)) where
   long-enter : (deadline : Float) (after : ℕ) → length (enterGrace T k deadline after .tags) ≡ length (T .tags)
   unfolding enterGrace
-  long-enter deadline after =
-      let m = setTable T k 2 in
-      length-set (m .tags) k (withGrace (tagAt m k) (graceUntil deadline after)) ∙ set-long T l k h 2
+  long-enter deadline after = put-long T l k h 2 (graceUntil deadline after)
 
   long-change : (after : ℕ) → length (changeGrace T k after .tags) ≡ length (T .tags)
   long-change after = length-set (T .tags) k (withGrace (tagAt T k) (graceUntil (tagAt T k .grace .deadline) after))
