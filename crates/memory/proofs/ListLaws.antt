@@ -1,15 +1,15 @@
 -- Lists of tag numbers in halves.
 use mathlib.Core.Path.{_≡_, refl, ap, sym, _∙_}
 use mathlib.Core.Bool.{Bool, true, false, not, cond}
-use mathlib.Core.List.{List, [], _∷_, _++_, append-assoc}
+use mathlib.Core.List.{List, [], _∷_, _++_}
 use Prim.Native.Nat.{ℕ, zero, suc, _+_, _-_, _/_, _%_, _≤_, _<_, min}
 use native.Mathlib.Nat.{add-comm, add-zero, mod-eq-of-lt}
 use native.Mathlib.Numerals.{add-one}
 use native.Mathlib.Omega.{arith}
 use borrow.Author.Tests.{ltb-true, ltb-false, lt-ltb, le-ltb, le-leb, lt-leb, eq-eqb, ne-eqb}
 use lib.Dec.{eqb, ltb}
-use lib.ListN.{length, getD, set, take, drop, length-take, length-drop, length-append, drop-of-length-le, List·getD-eq-default, List·getD-append}
-use lib.Seq.{take-all, take-nil, take-at, take-suc, take-suc-set, drop-drop, drop-cons, drop-set-add, drop-set-lt, getD-take, getD-drop, getD-set-other, set-set, set-at, set-split, length-take-le, append-snoc}
+use lib.ListN.{length, getD, set, take, drop, length-take, length-drop, length-append, drop-of-length-le, List·getD-eq-default}
+use lib.Seq.{take-all, take-nil, take-take, take-at, take-suc, take-suc-set, drop-drop, drop-cons, drop-set-add, drop-set-lt, getD-take, getD-drop, length-take-le}
 use Rattle.lists.specs.Keep.{keep, without, Below}
 use Rattle.lists.proofs.KeepLaws.{keep-yes, keep-no}
 use Rattle.memory.specs.Halves.{halvesIn}
@@ -186,72 +186,90 @@ module _ (n p k : ℕ) (xs : List ℕ) where
   pub inserted-full : p ≤ length xs → n ≤ length xs → insertedAt n p k xs ≡ xs
   inserted-full h full = rw (le-leb p (length xs) h, le-ltb (length xs) n full)
 
--- l with v at place i, and what follows: so far the tags from i on have moved up by one
-abbrev pub opened : List ℕ → List ℕ → ℕ → ℕ → List ℕ
-opened l rest v i = take i l ++ (v ∷ (drop i l ++ rest))
+-- l with v at place p
+abbrev pub opened : List ℕ → ℕ → ℕ → List ℕ
+opened l p v = take p l ++ (v ∷ drop p l)
 
--- the places that are not touched
-abbrev pub behind : List ℕ → List ℕ
-behind bs = drop (suc (length (listIn bs))) (places (halvesIn bs))
+length-opened : (l : List ℕ) (p v : ℕ) → p ≤ length l → length (opened l p v) ≡ suc (length l)
+length-opened l p v h = length-append (take p l) (v ∷ drop p l) ∙ omega (arith, length-take-le p l h, length-drop p l)
 
-pub opened-end : (bs : List ℕ) (v n : ℕ) → n ≡ length (listIn bs) → n < room bs
-    → set (places (halvesIn bs)) n v ≡ opened (listIn bs) (behind bs) v n
-opened-end bs v n len free =
+pub opened-here : (l : List ℕ) (p v : ℕ) → p ≤ length l → getD (opened l p v) p 0 ≡ v
+opened-here l zero v h = refl
+opened-here [] (suc p) v h = absurd (omega arith)
+opened-here (x ∷ l) (suc p) v h = opened-here l p v (omega arith)
+
+opened-after : (l : List ℕ) (p v i : ℕ) → p ≤ i → i < length l → getD (opened l p v) (suc i) 0 ≡ getD l i 0
+opened-after l zero v i b h = refl
+opened-after [] (suc p) v i b h = absurd (omega arith)
+opened-after (x ∷ l) (suc p) v zero b h = absurd (omega arith)
+opened-after (x ∷ l) (suc p) v (suc i) b h = opened-after l p v i (omega arith) (omega arith)
+
+-- the places to i are those of `whole`, and the others are not touched; old and new are halves
+pub record Opening (whole : List ℕ) (i : ℕ) (old new : List ℕ) : Type 0 where
+  pub front : take i (places new) ≡ take i whole
+  pub rest : drop i (places new) ≡ drop i (places old)
+
+pub opening-none : (bs : List ℕ) (p v : ℕ) → p ≤ length (listIn bs) → Opening (opened (listIn bs) p v) p (halvesIn bs) (halvesIn bs)
+opening-none bs p v h =
     let l = listIn bs in
-    let ps = places (halvesIn bs) in
-    set-split ps n v (omega (arith, length-places (halvesIn bs), length-halves bs))
-    ∙ ap (λ (m : ℕ). take n ps ++ (v ∷ drop (suc m) ps)) len
-    ∙ ap (λ (r : List ℕ). r ++ (v ∷ behind bs)) (ap (λ (m : ℕ). take m ps) len ∙ list-places bs ∙ sym (take-all n l (omega arith)))
-    ∙ ap (λ (r : List ℕ). take n l ++ (v ∷ (r ++ behind bs))) (sym (drop-of-length-le l {i = n} (omega arith)))
+    record {
+      front =
+          sym (take-take p (length l) (places (halvesIn bs)) h)
+          ∙ ap (take p) (list-places bs)
+          ∙ sym (take-at (take p l) (v ∷ drop p l) p (length-take-le p l h));
+      rest = refl;
+    }
 
--- the tag below place i is moved to it
-module _ (l rest ps : List ℕ) (v m : ℕ) (h : m < length l) (e : set ps (suc m) v ≡ opened l rest v (suc m)) where
-  opened-size : length (take (suc m) l) ≡ suc m
-  opened-size = length-take-le (suc m) l h
+module _ (whole : List ℕ) (i : ℕ) (old new : List ℕ) (r : Opening whole i old new) where
+  opening-read : getD new (i + 1) 0 ≡ getD old (i + 1) 0
+  opening-read =
+      let here : (l : List ℕ) → getD l i 0 ≡ getD (drop i l) 0 0 = λ l. sym (getD-drop i l 0 0 ∙ ap (λ (n : ℕ). getD l n 0) (add-zero i)) in
+      place-at new i ∙ here (places new) ∙ ap (λ (l : List ℕ). getD l 0 0) (r .rest) ∙ sym (here (places old)) ∙ sym (place-at old i)
 
-  opened-read : getD ps m 0 ≡ getD l m 0
-  opened-read =
-      sym (getD-set-other ps (suc m) m v 0 (λ q. omega arith))
-      ∙ ap (λ (r : List ℕ). getD r m 0) e
-      ∙ List·getD-append (take (suc m) l) (v ∷ (drop (suc m) l ++ rest)) 0 m (omega (arith, opened-size))
-      ∙ getD-take (suc m) l m 0 (omega arith)
+  pub opening-more : (put : List ℕ) (x : ℕ) → i < length whole → i < length (places new) → x ≡ getD whole i 0 → put ≡ set new (i + 1) x → Opening whole (i + 1) old put
+  opening-more put x h size at e =
+      let now = ap places e ∙ place-put new i x in
+      record {
+        front =
+            ap (take (i + 1)) now
+            ∙ ap (λ (n : ℕ). take n (set (places new) i x)) (add-one i)
+            ∙ take-suc-set (places new) i x size
+            ∙ ap (λ (l : List ℕ). l ++ (x ∷ [])) (r .front)
+            ∙ ap (λ (y : ℕ). take i whole ++ (y ∷ [])) at
+            ∙ sym (ap (λ (n : ℕ). take n whole) (add-one i) ∙ take-suc whole i 0 h);
+        rest =
+            ap (drop (i + 1)) now
+            ∙ drop-set-lt (i + 1) (places new) i x (omega arith)
+            ∙ sym (drop-drop 1 i (places new))
+            ∙ ap (drop 1) (r .rest)
+            ∙ drop-drop 1 i (places old);
+      }
 
-  opened-more : (x : ℕ) → x ≡ getD l m 0 → set (set ps (suc m) x) m v ≡ opened l rest v m
-  opened-more x a =
-      let tail = drop (suc m) l ++ rest in
-      let front : take (suc m) l ≡ take m l ++ (x ∷ []) = take-suc l m 0 h ∙ ap (λ (y : ℕ). take m l ++ (y ∷ [])) (sym a) in
-      ap (λ (r : List ℕ). set r m v)
-      (sym (set-set ps (suc m) v x)
-      ∙ ap (λ (r : List ℕ). set r (suc m) x) e
-      ∙ set-at (take (suc m) l) v tail x (suc m) opened-size
-      ∙ ap (λ (r : List ℕ). r ++ (x ∷ tail)) front
-      ∙ append-snoc (take m l) x (x ∷ tail))
-      ∙ set-at (take m l) x (x ∷ tail) v m (length-take-le m l (omega arith))
-      ∙ ap (λ (r : List ℕ). take m l ++ (v ∷ (r ++ rest))) (ap (λ (y : ℕ). y ∷ drop (suc m) l) a ∙ sym (drop-cons l m 0 h))
+-- what stands at place i goes to the next
+pub opening-next : (bs new : List ℕ) (p v i : ℕ) → Opening (opened (listIn bs) p v) i (halvesIn bs) new → p ≤ i → i < length (listIn bs)
+    → getD new (i + 1) 0 ≡ getD (opened (listIn bs) p v) (i + 1) 0
+opening-next bs new p v i r b h =
+    opening-read (opened (listIn bs) p v) i (halvesIn bs) new r
+    ∙ list-at bs i h
+    ∙ sym (ap (λ (n : ℕ). getD (opened (listIn bs) p v) n 0) (add-one i) ∙ opened-after (listIn bs) p v i b h)
 
-pub opened-down : (l rest hs put : List ℕ) (v i x : ℕ) → 0 < i → i ≤ length l → set (places hs) i v ≡ opened l rest v i
-    → x ≡ getD hs i 0 → put ≡ set hs (i + 1) x → set (places put) (i - 1) v ≡ opened l rest v (i - 1)
-opened-down l rest hs put v zero x pos h e r w = absurd (omega arith)
-opened-down l rest hs put v (suc m) x pos h e r w =
-    let down : suc m - 1 ≡ m = omega arith in
-    let read : x ≡ getD l m 0 =
-    r ∙ ap (λ (n : ℕ). getD hs n 0) (sym (add-one m)) ∙ place-at hs m ∙ opened-read l rest (places hs) v m h e
-    in
-    rw down (ap (λ (ps : List ℕ). set ps m v) (ap places w ∙ place-put hs (suc m) x) ∙ opened-more l rest (places hs) v m h e x read)
+pub opening-put : (bs now : List ℕ) (p v n i : ℕ) (put : List ℕ) (x : ℕ) → n ≡ length (listIn bs) → p ≤ n → i ≤ n → n < room bs → length now ≡ length bs
+    → Opening (opened (listIn bs) p v) i (halvesIn bs) (halvesIn now) → x ≡ getD (opened (listIn bs) p v) i 0 → put ≡ set (halvesIn now) (i + 1) x
+    → Opening (opened (listIn bs) p v) (i + 1) (halvesIn bs) put
+opening-put bs now p v n i put x len h b free same r at e =
+    opening-more (opened (listIn bs) p v) i (halvesIn bs) (halvesIn now) r put x
+    (omega (arith, length-opened (listIn bs) p v (omega arith)))
+    (omega (arith, length-places (halvesIn now), length-halves now))
+    at e
 
-pub opened-all : (old now mid new : List ℕ) (p v n : ℕ) → n ≡ length (listIn old) → p ≤ n → n < room old
-    → set (places (halvesIn now)) p v ≡ opened (listIn old) (behind old) v p
-    → halvesIn mid ≡ set (halvesIn now) (p + 1) v → halvesIn new ≡ set (halvesIn mid) 0 ((n + 1) % 65536)
+pub opening-all : (old mid new : List ℕ) (p v n : ℕ) → n ≡ length (listIn old) → p ≤ n → n < room old
+    → Opening (opened (listIn old) p v) (n + 1) (halvesIn old) (halvesIn mid) → halvesIn new ≡ set (halvesIn mid) 0 ((n + 1) % 65536)
     → listIn new ≡ insertedAt (room old) p v (listIn old)
-opened-all old now mid new p v n len h free e put count =
+opening-all old mid new p v n len h free r count =
     let l = listIn old in
     let more : (n + 1) % 65536 ≡ n + 1 = mod-eq-of-lt (omega arith) in
-    let whole = take p l ++ (v ∷ drop p l) in
-    let size : length whole ≡ n + 1 =
-    length-append (take p l) (v ∷ drop p l) ∙ omega (arith, length-take-le p l (omega arith), length-drop p l)
-    in
     recount mid new ((n + 1) % 65536) count
     ∙ ap (λ (m : ℕ). take m (places (halvesIn mid))) more
-    ∙ ap (take (n + 1)) (ap places put ∙ place-put (halvesIn now) p v ∙ e ∙ sym (append-assoc (take p l) (v ∷ drop p l) (behind old)))
-    ∙ take-at whole (behind old) (n + 1) size
+    ∙ r .front
+    ∙ take-all (n + 1) (opened l p v) (omega (arith, length-opened l p v (omega arith)))
     ∙ sym (inserted-more (room old) p v l (omega arith) (omega arith))

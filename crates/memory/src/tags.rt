@@ -95,7 +95,7 @@ pub fn remove(s: &mut [u8], k: usize)
     halves::put_half(s, 0, j);
 }
 
-// One tag more at place p: those from p on move up, the last first. A full list stays, and so does one
+// One tag more at place p: each from p on takes the place of the next. A full list stays, and so does one
 // that ends before p.
 pub fn insert_at(s: &mut [u8], p: usize, k: usize)
     ensures { λ _. ⌜ listIn (now (s .exit)) ≡ insertedAt (room (now (s .entry))) p (k % 65536) (listIn (now (s .entry))) ⌝ }
@@ -107,12 +107,14 @@ pub fn insert_at(s: &mut [u8], p: usize, k: usize)
     if room_of(s) <= n {
         return;
     }
-    let mut i = n;
-    while p < i {
-        let x = bytes::half(s, i);
+    let mut x = k;
+    let mut i = p;
+    while i < n {
+        let next = bytes::half(s, i + 1);
         bytes::put_half(s, i + 1, x);
-        i -= 1;
+        x = next;
+        i += 1;
     }
-    bytes::put_half(s, p + 1, k);
+    bytes::put_half(s, n + 1, x);
     bytes::put_half(s, 0, n + 1);
 }
