@@ -1,0 +1,2 @@
+-- Rule 7: readings applied, and stale.
+pub mod Apply

@@ -1,0 +1,2 @@
+// Rule 7: readings applied to the table, and a table marked stale.
+pub mod apply;
