@@ -1,2 +1,3 @@
 -- Rule 7: readings applied, and stale.
 pub mod Apply
+pub mod Stale

@@ -1,2 +1,3 @@
 // Rule 7: readings applied to the table, and a table marked stale.
 pub mod apply;
+pub mod stale;

@@ -1,0 +1,2 @@
+-- Laws of rule 7.
+pub mod StaleLaws
