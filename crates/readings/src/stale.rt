@@ -48,11 +48,12 @@ fn stale_held(h: Held) -> Held
         Held::Is(e) => {
             let value = e.value;
             let t = e.t;
+            let error = Error::None;
             Held::Is(Entry {
                 value: value,
                 quality: Quality::Stale,
                 t: t,
-                error: Error::None,
+                error: error,
             })
         }
     }
