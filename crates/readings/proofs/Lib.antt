@@ -1,0 +1,3 @@
+-- Laws of rule 7.
+pub mod StaleLaws
+pub mod ResultLaws

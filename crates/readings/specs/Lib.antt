@@ -1,0 +1,4 @@
+-- Rule 7: readings applied, and stale.
+pub mod Apply
+pub mod Stale
+pub mod Results
