@@ -1,6 +1,6 @@
 -- The tests of the code on floats and signed integers, as facts of their bits.
 use mathlib.Core.Path.{_≡_, refl, ap, sym, _∙_}
-use mathlib.Core.Bool.{Bool, true, false, not}
+use mathlib.Core.Bool.{Bool, true, false, not, cond}
 use Prim.Native.Nat.{ℕ, zero, suc, _+_, _-_, _*_, _/_, _%_, _≤_, _<_, _^_}
 use native.Mathlib.Omega.{arith}
 use lib.Dec.{T, ltb, lit<}
@@ -12,10 +12,12 @@ use lib.Ieee.Bits.{nanBits-is, nanBits-above}
 use denote.Floats.{passes}
 use borrow.Author.Tests.{lt-ltb, le-ltb, ltb-true, ne-eqb}
 use native.Mathlib.Nat.{mod-eq-of-lt}
-use mir.Val.{Fits, SFits, ofZ, toZ}
+use mir.Val.{Fits, SFits, ofZ, toZ, boolByte}
 use mir.Syntax.{w64}
 use mir.Facts.{toZ-pos, toZ-ofZ}
 use Rattle.values.specs.Entry.{qualityNumber}
+use Rattle.values.specs.declared.value.Value.{Value}
+use Rattle.values.specs.declared.value.Value.the-variants.{Bool as Flag}
 use Rattle.values.specs.declared.error.ErrorKind.the-variants.{NotFound, Access, Other}
 use Rattle.values.specs.declared.error.TagError.{TagError}
 use Rattle.values.specs.declared.error.Error.the-variants.{Is as IsError}
@@ -23,7 +25,8 @@ use Rattle.values.specs.declared.entry.Quality.{Quality}
 use Rattle.values.specs.declared.entry.Quality.the-variants.{Good, Bad, Missing, Stale}
 use Rattle.values.specs.declared.entry.Entry.{Entry}
 use Rattle.values.specs.declared.entry.Held.the-variants.{Is}
-use Rattle.words.specs.Value.{valueFrom}
+use Rattle.words.specs.Value.{valueFrom, valueWordsOf}
+use Rattle.words.specs.declared.value.ValueWords.{ValueWords}
 use Rattle.words.specs.Error.{kindFrom, errorFrom}
 use Rattle.words.specs.Entry.{qualityFrom, entryFrom, heldFrom}
 use Rattle.words.specs.declared.entry.EntryWords.{EntryWords}
@@ -67,6 +70,16 @@ pos-same (negsuc n) f e = absurd (let z : _≡_ {A = ℕ} 0 1 = cc in omega arit
 -- A signed test reads the number back from its bits
 pub signed-test : (x : ℤ) (b : Bool) → SFits w64 x → ltZ (toZ w64 (ofZ w64 x)) (pos 0) ≡ b → ltZ x (pos 0) ≡ b
 signed-test x b f e = ap (λ (z : ℤ). ltZ z (pos 0)) (sym (toZ-ofZ f)) ∙ e
+
+-- A flag as a number is 1 for true and 0 for false.
+pub flag-word : (b : Bool) → boolByte b ≡ cond b 1 0
+flag-word true = refl
+flag-word false = refl
+
+-- Such a word holds the flag's value, and is the value's own.
+pub flag-value : (b : Bool) (w : ℕ) (v : Value) → v ≡ Flag b → w ≡ cond b 1 0 → (valueFrom 1 w ≡ v) × (_≡_ {A = ValueWords} (record { kind = 1; word = w }) (valueWordsOf v))
+flag-value true w v f e = (rw (f, e), rw (f, e))
+flag-value false w v f e = (rw (f, e), rw (f, e))
 
 -- A code's word holds the code.
 pub kind-other : (code : ℕ) → code < 0x1_0000 → kindFrom (code + 3) ≡ Other code

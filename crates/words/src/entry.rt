@@ -3,7 +3,7 @@ ghost use mathlib.Core.Path.{_≡_};
 ghost use Prim.Native.Nat.{_+_};
 ghost use Rattle.values.specs.Entry.{qualityNumber};
 ghost use Rattle.values.specs.declared.entry.Held.the-variants.{Is};
-ghost use Rattle.words.specs.Entry.{qualityFrom, entryFrom, heldFrom};
+ghost use Rattle.words.specs.Entry.{qualityFrom, entryFrom, heldFrom, entryWordsOf, heldWordsOf};
 use super::error::error_from;
 use super::error::error_words;
 use super::scalar::int_of_word;
@@ -73,7 +73,7 @@ pub fn held_from(w: EntryWords) -> Held
 }
 
 pub fn entry_words(e: Entry) -> EntryWords
-    ensures { λ r. ⌜ heldFrom r ≡ Is e ⌝ }
+    ensures { λ r. ⌜ (heldFrom r ≡ Is e) × (r ≡ entryWordsOf e) ⌝ }
 {
     let v = e.value;
     let value = value_words(v);
@@ -93,7 +93,7 @@ pub fn entry_words(e: Entry) -> EntryWords
 }
 
 pub fn held_words(h: Held) -> EntryWords
-    ensures { λ r. ⌜ heldFrom r ≡ h ⌝ }
+    ensures { λ r. ⌜ (heldFrom r ≡ h) × (r ≡ heldWordsOf h) ⌝ }
 {
     match h {
         Held::None => EntryWords {

@@ -1,7 +1,8 @@
 // An error as two words.
 ghost use mathlib.Core.Path.{_≡_};
-ghost use Prim.Native.Nat.{_<_};
-ghost use Rattle.words.specs.Error.{kindFrom, errorFrom};
+ghost use Prim.Native.Nat.{_+_};
+ghost use Rattle.values.specs.Error.{kindNumber};
+ghost use Rattle.words.specs.Error.{kindFrom, errorFrom, errorWordsOf};
 use values::error::Error;
 use values::error::ErrorKind;
 use values::error::TagError;
@@ -26,7 +27,7 @@ fn kind_from(n: u64) -> ErrorKind
 
 // Not 0, which stands for no error.
 fn kind_word(k: ErrorKind) -> u64
-    ensures { λ r. ⌜ (0 < r) × (kindFrom r ≡ k) ⌝ }
+    ensures { λ r. ⌜ (kindFrom r ≡ k) × (r ≡ kindNumber k + 1) ⌝ }
 {
     match k {
         ErrorKind::NotFound => 1,
@@ -50,7 +51,7 @@ pub fn error_from(kind: u64, message: u64) -> Error
 }
 
 pub fn error_words(e: Error) -> ErrorWords
-    ensures { λ r. ⌜ errorFrom (r .kind) (r .message) ≡ e ⌝ }
+    ensures { λ r. ⌜ (errorFrom (r .kind) (r .message) ≡ e) × (r ≡ errorWordsOf e) ⌝ }
 {
     match e {
         Error::None => ErrorWords {

@@ -1,9 +1,8 @@
 // A value as two words.
 ghost use mathlib.Core.Path.{_≡_};
-ghost use Rattle.words.specs.Value.{valueFrom};
+ghost use Rattle.words.specs.Value.{valueFrom, valueWordsOf};
 use super::scalar::float_of_word;
 use super::scalar::int_of_word;
-use super::scalar::word_of_flag;
 use super::scalar::word_of_float;
 use super::scalar::word_of_int;
 use values::value::Value;
@@ -15,14 +14,14 @@ pub struct ValueWords {
 }
 
 pub fn value_words(v: Value) -> ValueWords
-    ensures { λ r. ⌜ valueFrom (r .kind) (r .word) ≡ v ⌝ }
+    ensures { λ r. ⌜ (valueFrom (r .kind) (r .word) ≡ v) × (r ≡ valueWordsOf v) ⌝ }
 {
     match v {
         Value::Null => ValueWords { kind: 0, word: 0 },
-        Value::Bool(b) => {
-            let w = word_of_flag(b);
-            ValueWords { kind: 1, word: w }
-        }
+        Value::Bool(b) => ValueWords {
+            kind: 1,
+            word: b as u64,
+        },
         Value::Int(n) => {
             let w = word_of_int(n);
             ValueWords { kind: 2, word: w }

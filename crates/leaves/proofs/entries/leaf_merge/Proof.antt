@@ -23,7 +23,7 @@ entry-words-requires c κs = search needs
 returns : tie.Need-returns
 returns c =
     let t = c .before .before .before .before .args .t in
-    c .entry-words .ensures
+    c .entry-words .ensures .0
     ∙ ap Is (c .before .merge .ensures ∙ ap (merged _ _) (toZ-ofZ w64 t (c .before .before .before .before .fits .t)))
     ∙ simp (c .before .before .result-from .ensures, c .before .before .before .held-from .ensures)
 

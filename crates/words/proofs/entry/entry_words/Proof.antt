@@ -3,6 +3,7 @@ use mathlib.Core.Path.{ap, _∙_}
 use mir.Val.{SFits, ofZ, toZ}
 use mir.Syntax.{w64}
 use mir.Facts.{toZ-ofZ}
+use Rattle.words.specs.Entry.{entryWordsOf}
 use Rattle.words.proofs.Laws.{entry-coded}
 use borrow.Author.Needs.{needs}
 use Rattle.words.proofs.entry.entry_words.Statement.{statement}
@@ -21,11 +22,14 @@ error-words-requires : tie.Need-error-words-requires
 error-words-requires c κs = search needs
 
 returns : tie.Need-returns
+unfolding entryWordsOf
 returns c =
     let e = c .before .before .before .before .before .args .e in
     let fit : SFits w64 (e .t) = search needs in
-    entry-coded e _ (c .before .before .before .quality-word .ensures) (c .before .before .before .before .value-words .ensures)
-    (ap (toZ w64) (c .before .word-of-int .ensures ∙ ap (ofZ w64) (toZ-ofZ fit)) ∙ toZ-ofZ fit) (c .error-words .ensures)
+    let time = c .before .word-of-int .ensures ∙ ap (ofZ w64) (toZ-ofZ fit) in (
+      entry-coded e _ (c .before .before .before .quality-word .ensures) (c .before .before .before .before .value-words .ensures .0) (ap (toZ w64) time ∙ toZ-ofZ fit) (c .error-words .ensures .0),
+      rw (c .before .before .before .quality-word .ensures, c .before .before .before .before .value-words .ensures .1, time, c .error-words .ensures .1),
+    )
 
 pub entry-words-spec : {M : Type 1} → statement M
 entry-words-spec =

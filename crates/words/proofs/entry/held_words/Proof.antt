@@ -1,5 +1,6 @@
 -- `words::entry::held_words` meets its contract.
-use mathlib.Core.Path.{sym, _∙_}
+use mathlib.Core.Path.{ap, sym, _∙_}
+use Rattle.words.specs.Entry.{heldWordsOf}
 use borrow.Author.Needs.{needs}
 use Rattle.words.proofs.entry.held_words.Statement.{statement}
 use Rattle.words.proofs.entry.held_words.Tie as tie
@@ -14,10 +15,10 @@ entry-words-requires : tie.Need-entry-words-requires
 entry-words-requires c κs = search needs
 
 returns : tie.Need-returns
-returns c = search needs
+returns c = (sym (c .enum-told .given .1), ap heldWordsOf (sym (c .enum-told .given .1)))
 
 returns-2 : tie.Need-returns-2
-returns-2 c = c .entry-words .ensures ∙ sym (c .before .before .h .given .1)
+returns-2 c = (c .entry-words .ensures .0 ∙ sym (c .before .before .h .given .1), rw (c .before .before .h .given .1) (c .entry-words .ensures .1))
 
 pub held-words-spec : {M : Type 1} → statement M
 held-words-spec =
