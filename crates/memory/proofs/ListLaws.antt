@@ -20,13 +20,13 @@ use Rattle.memory.proofs.HalfLaws.{length-halves, half-small}
 abbrev pub places : List ℕ → List ℕ
 places hs = drop 1 hs
 
-length-places : (hs : List ℕ) → length (places hs) ≡ length hs - 1
+pub length-places : (hs : List ℕ) → length (places hs) ≡ length hs - 1
 length-places hs = length-drop 1 hs
 
 place-at : (hs : List ℕ) (i : ℕ) → getD hs (i + 1) 0 ≡ getD (places hs) i 0
 place-at hs i = sym (getD-drop 1 hs i 0 ∙ ap (λ (n : ℕ). getD hs n 0) (add-comm 1 i))
 
-place-put : (hs : List ℕ) (i v : ℕ) → places (set hs (i + 1) v) ≡ set (places hs) i v
+pub place-put : (hs : List ℕ) (i v : ℕ) → places (set hs (i + 1) v) ≡ set (places hs) i v
 place-put hs i v = ap (λ (n : ℕ). places (set hs n v)) (add-comm i 1) ∙ drop-set-add 1 hs i v
 
 -- a new count: the places stay

@@ -8,19 +8,21 @@ ghost use Rattle.memory.specs.Lists.{listIn, room, pushed, insertedAt, m
 use crate::bytes;
 use crate::halves;
 
-// The stored count; where that is above the places there are, all of them.
+// The stored count; where that is above the places there are, all of them. It is the lesser of the two in so many
+// words, so that a compiler knows that a place below it is within the slice.
 pub fn count(s: &[u8]) -> usize
     ensures { λ r. ⌜ r ≡ length (listIn (now (s .entry))) ⌝ }
 {
     let size = s.len() / 2;
-    let n = halves::half(s, 0);
-    if n < size {
-        return n;
-    }
     if size == 0 {
         return 0;
     }
-    size - 1
+    let n = halves::half(s, 0);
+    let places = size - 1;
+    if n < places {
+        return n;
+    }
+    places
 }
 
 // How many tags the slice has room for; the count has to fit its half too.

@@ -1,22 +1,22 @@
 -- Tags new in tier 2: pushed one by one onto a list that grows, and settled.
 use mathlib.Core.Path.{_≡_, refl, ap, sym, _∙_}
-use mathlib.Core.Bool.{Bool, true, false, cond}
-use mathlib.Core.List.{List, [], _∷_, _++_, append-assoc, append-nil}
+use mathlib.Core.Bool.{Bool, true, false, cond, true≢false}
+use mathlib.Core.List.{List, [], _∷_, _++_, map, append-assoc, append-nil}
 use Prim.Native.Nat.{ℕ, zero, suc, _+_, _-_, _%_, _≤_, _<_}
 use native.Mathlib.Nat.{mod-eq-of-lt}
 use native.Mathlib.Numerals.{add-one}
 use native.Mathlib.Omega.{arith}
 use borrow.Author.Tests.{ne-eqb}
 use lib.Dec.{eqb}
-use lib.ListN.{length, getD, set, take}
-use lib.Seq.{take-append-add, set-getD}
+use lib.ListN.{length, getD, set, take, drop, drop-of-length-le}
+use lib.Seq.{take-all, take-append-add, drop-cons, set-getD}
 use Rattle.lists.specs.Keep.{keep, Below}
 use Rattle.lists.proofs.KeepLaws.{keep-append, below-append, below-keep}
 use Rattle.memory.specs.Lists.{pushed, member}
 use Rattle.memory.proofs.LoopLaws.{pushed-clipped, mapped, mapped-read, mapped-more}
 use Rattle.table.specs.Tag.{freshTag}
 use Rattle.table.specs.declared.tag.Tag.{Tag}
-use Rattle.rounds.specs.Added.{isAdded, settled}
+use Rattle.rounds.specs.Added.{isAdded, anyAdded, settled}
 use Rattle.lists.specs.Keep.{upTo}
 
 -- ---- what is pushed is below k, so it does not name k
@@ -109,3 +109,47 @@ module _ (l : List Tag) (i : ℕ) (T : List Tag) (done : T ≡ mapped settled i 
       sym (set-getD T i freshTag)
       ∙ ap (set T i) (sym (settled-already (getD T i freshTag) e))
       ∙ settled-put
+
+-- ---- whether a tag is new, looked for row by row
+
+module _ (l : List Tag) (i : ℕ) where
+  pub any-yes : i < length l → getD l i freshTag .added ≡ true → anyAdded (drop i l) ≡ true
+  any-yes h e = rw (drop-cons l i freshTag h, e)
+
+  pub any-no : i < length l → getD l i freshTag .added ≡ false → anyAdded (drop i l) ≡ anyAdded (drop (i + 1) l)
+  any-no h e = rw (add-one i, drop-cons l i freshTag h, e)
+
+  pub any-end : length l ≤ i → anyAdded (drop i l) ≡ false
+  any-end h = ap anyAdded (drop-of-length-le l {i = i} h)
+
+-- ---- none is new
+
+none-first : (b c : Bool) → cond b true c ≡ false → b ≡ false
+none-first true c e = absurd (true≢false e)
+none-first false c e = refl
+
+none-rest : (b c : Bool) → cond b true c ≡ false → c ≡ false
+none-rest true c e = absurd (true≢false e)
+none-rest false c e = e
+
+none-at : (l : List Tag) (k : ℕ) → anyAdded l ≡ false → getD l k freshTag .added ≡ false
+none-at [] k e = refl
+none-at (x ∷ l) zero e = none-first (x .added) (anyAdded l) e
+none-at (x ∷ l) (suc k) e = none-at l k (none-rest (x .added) (anyAdded l) e)
+
+pub none-settled : (l : List Tag) → anyAdded l ≡ false → l ≡ map settled l
+none-settled [] e = refl
+none-settled (x ∷ l) e =
+    ap (λ (y : Tag). y ∷ l) (sym (settled-already x (none-first (x .added) (anyAdded l) e)))
+    ∙ ap (λ (r : List Tag). settled x ∷ r) (none-settled l (none-rest (x .added) (anyAdded l) e))
+
+keep-none : (p : ℕ → Bool) (l : List ℕ) → ((k : ℕ) → p k ≡ false) → keep p l ≡ []
+unfolding keep
+keep-none p [] h = refl
+keep-none p (x ∷ l) h = rw (h x) (keep-none p l h)
+
+pub none-listed : (tags : List Tag) (n : ℕ) (b ks : List ℕ) → anyAdded tags ≡ false → length b ≤ n → b ≡ take n (b ++ keep (isAdded tags b) ks)
+none-listed tags n b ks e h =
+    sym (ap (λ (r : List ℕ). take n (b ++ r)) (keep-none (isAdded tags b) ks (λ k. rw (none-at tags k e)))
+    ∙ ap (take n) (append-nil b)
+    ∙ take-all n b h)

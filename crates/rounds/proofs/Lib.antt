@@ -5,4 +5,5 @@ pub mod GraceLaws
 pub mod NameLaws
 pub mod RoundLaws
 pub mod SliceLaws
+pub mod SlotLaws
 pub mod TickLaws

@@ -1,6 +1,6 @@
 -- Rule 6: tags new in tier 2.
-use mathlib.Core.Bool.{Bool, false, not, _&&_}
-use mathlib.Core.List.{List, _++_}
+use mathlib.Core.Bool.{Bool, true, false, not, _&&_, cond}
+use mathlib.Core.List.{List, [], _∷_, _++_}
 use Prim.Native.Nat.{ℕ, min}
 use lib.ListN.{length, getD}
 use Rattle.lists.specs.Keep.{keep, upTo}
@@ -12,6 +12,11 @@ use Rattle.rounds.specs.Room.{fitted}
 
 abbrev pub isAdded : List Tag → List ℕ → ℕ → Bool
 isAdded tags listed k = getD tags k freshTag .added && not (member k listed)
+
+-- Rule 6: whether a tag is new in tier 2.
+abbrev pub anyAdded : List Tag → Bool
+anyAdded [] = false
+anyAdded (x ∷ xs) = cond (x .added) true (anyAdded xs)
 
 -- The tags of a table by rank, which is byte order. A list in memory holds tags below 65536; no directory has so many.
 abbrev pub byRank : List Tag → List ℕ

@@ -3,7 +3,7 @@ ghost use mathlib.Core.Path.{_≡_};
 ghost use mathlib.Core.List.{map};
 ghost use Rattle.memory.specs.Lists.{listIn, room};
 ghost use Rattle.table.specs.Table.{tableIn};
-ghost use Rattle.rounds.specs.Added.{byRank, withAddedTags, settled};
+ghost use Rattle.rounds.specs.Added.{anyAdded, byRank, withAddedTags, settled};
 use memory::tags::contains;
 use memory::tags::push;
 use table::fields::added_of;
@@ -25,6 +25,21 @@ pub fn list_added(t: &[u8], list: &mut [u8])
         }
         k += 1;
     }
+}
+
+// Whether a tag is new in tier 2. Mostly none is.
+pub fn any_added(t: &[u8]) -> bool
+    ensures { λ r. ⌜ r ≡ anyAdded (tableIn (now (t .entry))) ⌝ }
+{
+    let n = t.len() / 256;
+    let mut k: usize = 0;
+    while k < n {
+        if added_of(t, k) {
+            return true;
+        }
+        k += 1;
+    }
+    false
 }
 
 // No tag is new any more.

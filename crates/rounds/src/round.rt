@@ -1,10 +1,15 @@
 // Rule 6, whole: the Rust's `cycle_tags`.
 ghost use mathlib.Core.Path.{_≡_};
+ghost use mathlib.Core.List.{map};
 ghost use Rattle.lists.specs.Sort.{byKeys};
 ghost use Rattle.memory.specs.Halves.{halvesIn};
-ghost use Rattle.memory.specs.Lists.{listIn};
+ghost use Rattle.memory.specs.Lists.{listIn, room};
+ghost use Rattle.table.specs.Table.{tableIn};
+ghost use Rattle.rounds.specs.Added.{byRank, withAddedTags, settled};
+ghost use Rattle.rounds.specs.Missing.{notHeldBack};
 ghost use Rattle.rounds.specs.Round.{cycleAfter, round};
 ghost use Rattle.rounds.specs.Memory.{pollingIn, roomsIn, Worked};
+use super::added::any_added;
 use super::added::list_added;
 use super::added::settle;
 use super::due::list_due;
@@ -41,6 +46,22 @@ fn cycle_after(c: Cycle, boundary: bool, clock: f64, index: u64) -> Cycle
     }
 }
 
+// The new tags after what `wanted` has, and of all these the ones that are not held back into `list`. Then no tag is
+// new any more.
+fn list_round(t: &mut [u8], wanted: &mut [u8], list: &mut [u8], clock: f64)
+    ensures { λ _. ⌜ listIn (now (wanted .exit)) ≡ withAddedTags (room (now (wanted .entry))) (tableIn (now (t .entry))) (listIn (now (wanted .entry))) (byRank (tableIn (now (t .entry)))) ⌝ }
+    ensures { λ _. ⌜ listIn (now (list .exit)) ≡ notHeldBack (room (now (list .entry))) (tableIn (now (t .entry))) (listIn (now (wanted .exit))) clock ⌝ }
+    ensures { λ _. ⌜ tableIn (now (t .exit)) ≡ map settled (tableIn (now (t .entry))) ⌝ }
+{
+    if any_added(t) {
+        list_added(t, wanted);
+        drop_missing(t, wanted, list, clock);
+        settle(t);
+        return;
+    }
+    drop_missing(t, wanted, list, clock);
+}
+
 // A round at the clock time `clock`: the tags to read go into `list`. `sorted` and `wanted` are room to work in.
 pub fn cycle_tags(
     t: &mut [u8],
@@ -72,9 +93,7 @@ pub fn cycle_tags(
     mark_due(t, wanted, clock);
     record_due(t, wanted, groups, recorded, clock);
     let index = take_slice(t, order, keys, sorted, wanted, o, c.index, boundary);
-    list_added(t, wanted);
-    drop_missing(t, wanted, list, clock);
-    settle(t);
+    list_round(t, wanted, list, clock);
     let after = cycle_after(c, boundary, clock, index);
     CycleTags {
         tick: tick,

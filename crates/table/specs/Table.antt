@@ -1,12 +1,15 @@
 -- The tags that lent memory holds, and a tag with one part replaced.
-use mathlib.Core.Bool.{Bool, true}
+use mathlib.Core.Bool.{Bool, true, false}
 use mathlib.Core.List.{List, map}
 use Prim.Native.Nat.{ℕ}
 use lib.Ieee.{Float}
 use Rattle.memory.specs.Cells.{rowsIn}
+use Rattle.values.specs.declared.entry.Held.the-variants.{None}
+use Rattle.table.specs.Tag.{f0, noTiming}
 use Rattle.table.specs.Row.{tagFrom}
 use Rattle.table.specs.declared.tag.Grace.{Grace}
 use Rattle.table.specs.declared.tag.Timing.{Timing}
+use Rattle.table.specs.declared.tag.Description.{Description}
 use Rattle.table.specs.declared.tag.Tag.{Tag}
 
 -- a tag for each row
@@ -54,4 +57,65 @@ withAdded x b = record {
   settings = x .settings;
   cached = x .cached;
   published = x .published;
+}
+
+abbrev pub withWants : Tag → Bool → Tag
+withWants x b = record {
+  tier = x .tier;
+  grace = x .grace;
+  timing = x .timing;
+  added = x .added;
+  wants = b;
+  description = x .description;
+  settings = x .settings;
+  cached = x .cached;
+  published = x .published;
+}
+
+abbrev pub withDescription : Tag → Description → Tag
+withDescription x d = record {
+  tier = x .tier;
+  grace = x .grace;
+  timing = x .timing;
+  added = x .added;
+  wants = x .wants;
+  description = d;
+  settings = x .settings;
+  cached = x .cached;
+  published = x .published;
+}
+
+-- in grace to the same deadline, the tier `after` following
+abbrev pub withAfter : Tag → ℕ → Tag
+withAfter x after = withGrace x (record { on = true; deadline = x .grace .deadline; after = after })
+
+abbrev pub withStanding : Tag → ℕ → Grace → Bool → Bool → Tag
+withStanding x tier g added wants = record {
+  tier = tier;
+  grace = g;
+  timing = x .timing;
+  added = added;
+  wants = wants;
+  description = x .description;
+  settings = x .settings;
+  cached = x .cached;
+  published = x .published;
+}
+
+-- never read
+abbrev pub withoutLast : Tag → Tag
+withoutLast x = withTiming x (record { read = false; last = f0; missing = x .timing .missing; retry = x .timing .retry })
+
+-- never read, not missing, with no entry
+abbrev pub withoutReadings : Tag → Tag
+withoutReadings x = record {
+  tier = x .tier;
+  grace = x .grace;
+  timing = noTiming;
+  added = x .added;
+  wants = x .wants;
+  description = x .description;
+  settings = x .settings;
+  cached = None;
+  published = None;
 }

@@ -2,15 +2,21 @@
 ghost use mathlib.Core.Path.{_≡_};
 ghost use lib.ListN.{getD, set};
 ghost use Rattle.table.specs.Tag.{freshTag};
-ghost use Rattle.table.specs.Table.{tableIn, withLast, withAdded};
+ghost use Rattle.table.specs.Table.{tableIn, withLast, withAdded, withWants, withDescription, withAfter, withStanding, withoutLast, withoutReadings};
+use super::codec::description_from;
+use super::codec::description_word;
 use super::codec::grace_from;
 use super::codec::settings_from;
 use super::codec::timing_from;
+use super::tag::Description;
 use super::tag::Grace;
 use super::tag::Settings;
 use super::tag::Timing;
 use memory::rows::put_row_cell;
 use memory::rows::row_cell;
+use values::entry::Held;
+use words::entry::EntryWords;
+use words::entry::held_from;
 use words::scalar::word_of_flag;
 use words::scalar::word_of_float;
 
@@ -45,6 +51,19 @@ pub fn added_of(t: &[u8], k: usize) -> bool
     0 < row_cell(t, k, 8)
 }
 
+pub fn wants_of(t: &[u8], k: usize) -> bool
+    ensures { λ r. ⌜ r ≡ getD (tableIn (now (t .entry))) k freshTag .wants ⌝ }
+{
+    0 < row_cell(t, k, 9)
+}
+
+pub fn description_of(t: &[u8], k: usize) -> Description
+    ensures { λ r. ⌜ r ≡ getD (tableIn (now (t .entry))) k freshTag .description ⌝ }
+{
+    let n = row_cell(t, k, 10);
+    description_from(n)
+}
+
 pub fn settings_of(t: &[u8], k: usize) -> Settings
     ensures { λ r. ⌜ r ≡ getD (tableIn (now (t .entry))) k freshTag .settings ⌝ }
 {
@@ -54,6 +73,44 @@ pub fn settings_of(t: &[u8], k: usize) -> Settings
     let rate = row_cell(t, k, 14);
     let described = row_cell(t, k, 15);
     settings_from(band, grouped, group, rate, described)
+}
+
+pub fn cached_of(t: &[u8], k: usize) -> Held
+    ensures { λ r. ⌜ r ≡ getD (tableIn (now (t .entry))) k freshTag .cached ⌝ }
+{
+    let held = row_cell(t, k, 16);
+    let kind = row_cell(t, k, 17);
+    let word = row_cell(t, k, 18);
+    let time = row_cell(t, k, 19);
+    let error = row_cell(t, k, 20);
+    let message = row_cell(t, k, 21);
+    held_from(EntryWords {
+        held: held,
+        kind: kind,
+        word: word,
+        t: time,
+        error: error,
+        message: message,
+    })
+}
+
+pub fn published_of(t: &[u8], k: usize) -> Held
+    ensures { λ r. ⌜ r ≡ getD (tableIn (now (t .entry))) k freshTag .published ⌝ }
+{
+    let held = row_cell(t, k, 22);
+    let kind = row_cell(t, k, 23);
+    let word = row_cell(t, k, 24);
+    let time = row_cell(t, k, 25);
+    let error = row_cell(t, k, 26);
+    let message = row_cell(t, k, 27);
+    held_from(EntryWords {
+        held: held,
+        kind: kind,
+        word: word,
+        t: time,
+        error: error,
+        message: message,
+    })
 }
 
 // The last reading time set.
@@ -71,4 +128,64 @@ pub fn put_added(t: &mut [u8], k: usize, added: bool)
 {
     let flag = word_of_flag(added);
     put_row_cell(t, k, 8, flag);
+}
+
+// Whether the tag's description is to be asked for.
+pub fn put_wants(t: &mut [u8], k: usize, wants: bool)
+    ensures { λ _. ⌜ tableIn (now (t .exit)) ≡ set (tableIn (now (t .entry))) k (withWants (getD (tableIn (now (t .entry))) k freshTag) wants) ⌝ }
+{
+    let flag = word_of_flag(wants);
+    put_row_cell(t, k, 9, flag);
+}
+
+// What is known of the tag's description.
+pub fn put_description(t: &mut [u8], k: usize, d: Description)
+    ensures { λ _. ⌜ tableIn (now (t .exit)) ≡ set (tableIn (now (t .entry))) k (withDescription (getD (tableIn (now (t .entry))) k freshTag) d) ⌝ }
+{
+    let n = description_word(d);
+    put_row_cell(t, k, 10, n);
+}
+
+// Tier and grace, whether the tag is new in tier 2, and whether its description is wanted.
+pub fn put_standing(t: &mut [u8], k: usize, tier: u8, g: Grace, added: bool, wants: bool)
+    ensures { λ _. ⌜ tableIn (now (t .exit)) ≡ set (tableIn (now (t .entry))) k (withStanding (getD (tableIn (now (t .entry))) k freshTag) tier g added wants) ⌝ }
+{
+    let on = word_of_flag(g.on);
+    let deadline = word_of_float(g.deadline);
+    let new = word_of_flag(added);
+    let wanted = word_of_flag(wants);
+    put_row_cell(t, k, 0, tier as u64);
+    put_row_cell(t, k, 1, on);
+    put_row_cell(t, k, 2, deadline);
+    put_row_cell(t, k, 3, g.after as u64);
+    put_row_cell(t, k, 8, new);
+    put_row_cell(t, k, 9, wanted);
+}
+
+// The last reading time is forgotten.
+pub fn forget_last(t: &mut [u8], k: usize)
+    ensures { λ _. ⌜ tableIn (now (t .exit)) ≡ set (tableIn (now (t .entry))) k (withoutLast (getD (tableIn (now (t .entry))) k freshTag)) ⌝ }
+{
+    put_row_cell(t, k, 4, 0);
+    put_row_cell(t, k, 5, 0);
+}
+
+// Last reading time, missing mark and both entries are forgotten. A 0 in its first cell is no entry.
+pub fn forget(t: &mut [u8], k: usize)
+    ensures { λ _. ⌜ tableIn (now (t .exit)) ≡ set (tableIn (now (t .entry))) k (withoutReadings (getD (tableIn (now (t .entry))) k freshTag)) ⌝ }
+{
+    put_row_cell(t, k, 4, 0);
+    put_row_cell(t, k, 5, 0);
+    put_row_cell(t, k, 6, 0);
+    put_row_cell(t, k, 7, 0);
+    put_row_cell(t, k, 16, 0);
+    put_row_cell(t, k, 22, 0);
+}
+
+// The tag is in grace, and a tier follows it.
+pub fn put_after(t: &mut [u8], k: usize, after: u8)
+    ensures { λ _. ⌜ tableIn (now (t .exit)) ≡ set (tableIn (now (t .entry))) k (withAfter (getD (tableIn (now (t .entry))) k freshTag) after) ⌝ }
+{
+    put_row_cell(t, k, 1, 1);
+    put_row_cell(t, k, 3, after as u64);
 }

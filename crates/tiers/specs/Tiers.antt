@@ -11,7 +11,7 @@ use Rattle.memory.specs.Lists.{listIn, room, pushed}
 use Rattle.values.specs.declared.entry.Held.{Held}
 use Rattle.values.specs.declared.entry.Held.the-variants.{None}
 use Rattle.table.specs.Tag.{f0, noGrace, noTiming, freshTag}
-use Rattle.table.specs.Table.{tableIn, withGrace}
+use Rattle.table.specs.Table.{tableIn, withGrace, withoutLast, withoutReadings}
 use Rattle.table.specs.declared.tag.Grace.{Grace}
 use Rattle.table.specs.declared.tag.Timing.{Timing}
 use Rattle.table.specs.declared.tag.Tag.{Tag}
@@ -42,12 +42,18 @@ timingSet x tier =
     cond (eqb tier 0) noTiming (cond (eqb tier 1) x (record { read = false; last = f0; missing = x .missing; retry = x .retry }))
 
 -- Rule 6: new in tier 2 is a tag put there from none or tier 3 and not moved since.
+abbrev pub addedFrom : ℕ → Bool → ℕ → Bool
+addedFrom old added tier = eqb tier 2 && (eqb old 0 || (eqb old 3 || added))
+
 abbrev pub addedSet : Tag → ℕ → Bool
-addedSet x tier = eqb tier 2 && (eqb (x .tier) 0 || (eqb (x .tier) 3 || x .added))
+addedSet x tier = addedFrom (x .tier) (x .added) tier
 
 -- Rule 8: a tag that isn't a bit wants a description on entering the table. Rule 5: leaving forgets the want.
+abbrev pub wantsFrom : ℕ → Bool → Bool → ℕ → Bool
+wantsFrom old wants bit tier = not (eqb tier 0) && (wants || (eqb old 0 && not bit))
+
 abbrev pub wantsSet : Tag → Bool → ℕ → Bool
-wantsSet x bit tier = not (eqb tier 0) && (x .wants || (eqb (x .tier) 0 && not bit))
+wantsSet x bit tier = wantsFrom (x .tier) (x .wants) bit tier
 
 -- Rule 5: leaving forgets an entry.
 abbrev pub heldSet : Held → ℕ → Held
@@ -66,6 +72,10 @@ tagSet x bit tier = record {
   cached = heldSet (x .cached) tier;
   published = heldSet (x .published) tier;
 }
+
+-- Rule 5: what is kept of readings and entries when a tag is put in a tier: nothing on leaving, all in tier 1, and otherwise all but the last reading time.
+abbrev pub keptFor : Tag → ℕ → Tag
+keptFor x tier = cond (eqb tier 0) (withoutReadings x) (cond (eqb tier 1) x (withoutLast x))
 
 -- Rule 5: table order is order of entry. A tag that enters stands last, one that leaves is taken out, and one that is changed keeps its place.
 unfoldable pub orderSet : ℕ → List ℕ → ℕ → ℕ → ℕ → List ℕ

@@ -4,13 +4,11 @@ ghost use Rattle.tiers.specs.Tiers.{tabled, enterGrace, changeGrace, cha
 ghost use Rattle.table.specs.Table.{tableIn};
 use super::set::put;
 use super::set::set;
-use super::set::with_grace;
 use memory::tags::push;
 use table::fields::grace_of;
+use table::fields::put_after;
 use table::fields::tier_of;
-use table::put_tag;
 use table::tag::Grace;
-use table::tag_of;
 
 fn enter_grace(
     t: &mut [u8],
@@ -35,15 +33,7 @@ fn enter_grace(
 fn change_grace(t: &mut [u8], k: u16, after: u8)
     ensures { λ _. ⌜ tableIn (now (t .exit)) ≡ changedTags (tableIn (now (t .entry))) k after ⌝ }
 {
-    let x = tag_of(t, k as usize);
-    let old = x.grace;
-    let g = Grace {
-        on: true,
-        deadline: old.deadline,
-        after: after,
-    };
-    let y = with_grace(x, g);
-    put_tag(t, k as usize, y);
+    put_after(t, k as usize, after);
 }
 
 // Rule 5: a tier call, 0 being none. A tag that leaves tier 1 stays in tier 2 for the grace first, so that a page
@@ -60,15 +50,15 @@ pub fn set_tier(
 )
     ensures { λ _. ⌜ tabled (now (t .exit)) (now (order .exit)) (now (graces .exit)) (now (words .entry)) ≡ setTier (tabled (now (t .entry)) (now (order .entry)) (now (graces .entry)) (now (words .entry))) k tier grace clock ⌝ }
 {
+    if grace <= 0.0 {
+        set(t, order, graces, words, k, tier);
+        return;
+    }
     if tier == 1 {
         set(t, order, graces, words, k, tier);
         return;
     }
     if tier == 2 {
-        set(t, order, graces, words, k, tier);
-        return;
-    }
-    if grace <= 0.0 {
         set(t, order, graces, words, k, tier);
         return;
     }

@@ -1,121 +1,47 @@
 // A tag put in a tier at once.
 ghost use mathlib.Core.Path.{_≡_};
 ghost use Rattle.memory.specs.Lists.{listIn, room};
-ghost use Rattle.tiers.specs.Tiers.{tabled, timingSet, addedSet, wantsSet, heldSet, tagSet, orderSet, graceEnded, putTable, setTable};
-ghost use Rattle.table.specs.Table.{withGrace};
+ghost use lib.ListN.{getD, set};
+ghost use Rattle.table.specs.Tag.{freshTag};
+ghost use Rattle.table.specs.Table.{tableIn};
+ghost use Rattle.tiers.specs.Tiers.{tabled, addedFrom, wantsFrom, keptFor, orderSet, graceEnded, putTable, setTable};
 use memory::halves::half;
 use memory::tags::push;
 use memory::tags::remove;
-use table::put_tag;
+use table::fields::added_of;
+use table::fields::forget;
+use table::fields::forget_last;
+use table::fields::grace_of;
+use table::fields::put_standing;
+use table::fields::tier_of;
+use table::fields::wants_of;
 use table::tag::Grace;
-use table::tag::Tag;
-use table::tag::Timing;
-use table::tag_of;
-use values::entry::Held;
 
-fn timing_set(x: Timing, tier: u8) -> Timing
-    ensures { λ r. ⌜ r ≡ timingSet x tier ⌝ }
+// The tests below do not branch, as the tiers of calls follow no order that a processor could foresee.
+fn added_set(old: u8, added: bool, tier: u8) -> bool
+    ensures { λ r. ⌜ r ≡ addedFrom old added tier ⌝ }
+{
+    (tier == 2) & ((old == 0) | ((old == 3) | added))
+}
+
+fn wants_set(old: u8, wants: bool, bit: bool, tier: u8) -> bool
+    ensures { λ r. ⌜ r ≡ wantsFrom old wants bit tier ⌝ }
+{
+    (tier != 0) & (wants | ((old == 0) & !bit))
+}
+
+// Leaving forgets readings and entries, and any other setting but tier 1 the last reading time.
+fn forget_for(t: &mut [u8], k: usize, tier: u8)
+    ensures { λ _. ⌜ tableIn (now (t .exit)) ≡ set (tableIn (now (t .entry))) k (keptFor (getD (tableIn (now (t .entry))) k freshTag) tier) ⌝ }
 {
     if tier == 0 {
-        return Timing::none();
+        forget(t, k);
+        return;
     }
     if tier == 1 {
-        return x;
+        return;
     }
-    Timing {
-        read: false,
-        last: 0.0,
-        missing: x.missing,
-        retry: x.retry,
-    }
-}
-
-fn added_set(x: Tag, tier: u8) -> bool
-    ensures { λ r. ⌜ r ≡ addedSet x tier ⌝ }
-{
-    if tier != 2 {
-        return false;
-    }
-    if x.tier == 0 {
-        return true;
-    }
-    if x.tier == 3 {
-        return true;
-    }
-    x.added
-}
-
-fn wants_set(x: Tag, bit: bool, tier: u8) -> bool
-    ensures { λ r. ⌜ r ≡ wantsSet x bit tier ⌝ }
-{
-    if tier == 0 {
-        return false;
-    }
-    if x.wants {
-        return true;
-    }
-    if x.tier != 0 {
-        return false;
-    }
-    !bit
-}
-
-// Leaving forgets an entry.
-fn held_set(h: Held, tier: u8) -> Held
-    ensures { λ r. ⌜ r ≡ heldSet h tier ⌝ }
-{
-    if tier == 0 {
-        return Held::None;
-    }
-    h
-}
-
-fn tag_set(x: Tag, bit: bool, tier: u8) -> Tag
-    ensures { λ r. ⌜ r ≡ tagSet x bit tier ⌝ }
-{
-    let grace = Grace::none();
-    let old = x.timing;
-    let timing = timing_set(old, tier);
-    let added = added_set(x, tier);
-    let wants = wants_set(x, bit, tier);
-    let description = x.description;
-    let settings = x.settings;
-    let c = x.cached;
-    let cached = held_set(c, tier);
-    let p = x.published;
-    let published = held_set(p, tier);
-    Tag {
-        tier: tier,
-        grace: grace,
-        timing: timing,
-        added: added,
-        wants: wants,
-        description: description,
-        settings: settings,
-        cached: cached,
-        published: published,
-    }
-}
-
-pub fn with_grace(x: Tag, g: Grace) -> Tag
-    ensures { λ r. ⌜ r ≡ withGrace x g ⌝ }
-{
-    let timing = x.timing;
-    let description = x.description;
-    let settings = x.settings;
-    let cached = x.cached;
-    let published = x.published;
-    Tag {
-        tier: x.tier,
-        grace: g,
-        timing: timing,
-        added: x.added,
-        wants: x.wants,
-        description: description,
-        settings: settings,
-        cached: cached,
-        published: published,
-    }
+    forget_last(t, k);
 }
 
 fn order_set(order: &mut [u8], k: u16, old: u8, new: u8)
@@ -154,13 +80,14 @@ pub fn put(
 {
     let at = k as usize;
     let bit = half(words, at) != 0;
-    let x = tag_of(t, at);
-    let old = x.grace;
-    let set = tag_set(x, bit, tier);
-    let y = with_grace(set, g);
-    order_set(order, k, x.tier, tier);
-    end_grace(graces, k, old.on);
-    put_tag(t, at, y);
+    let old = tier_of(t, at);
+    let grace = grace_of(t, at);
+    let added = added_set(old, added_of(t, at), tier);
+    let wants = wants_set(old, wants_of(t, at), bit, tier);
+    put_standing(t, at, tier, g, added, wants);
+    forget_for(t, at, tier);
+    order_set(order, k, old, tier);
+    end_grace(graces, k, grace.on);
 }
 
 // The tag k put in a tier at once; 0 is none.

@@ -6,20 +6,20 @@ use borrow.Author.Needs.{needs}
 use Rattle.memory.proofs.tags.count.Statement.{statement}
 use Rattle.memory.proofs.tags.count.Tie as tie
 
+returns : tie.Need-returns
+returns c = omega (arith, length-list (now (c .before .before .args .s)))
+
 half-requires : tie.Need-half-requires
 half-requires c κs = search needs
 
-returns : tie.Need-returns
-returns c = omega (arith, length-list (now (c .before .before .before .args .s)))
+sub-places : tie.Need-sub-places
+sub-places c = search needs
 
 returns-2 : tie.Need-returns-2
 returns-2 c = omega (arith, length-list (now (c .before .before .before .before .args .s)))
-
-sub-result : tie.Need-sub-result
-sub-result c = search needs
 
 returns-3 : tie.Need-returns-3
 returns-3 c = omega (arith, length-list (now (c .before .before .before .before .args .s)))
 
 pub count-spec : {M : Type 1} → statement M
-count-spec = tie.close (tie.spec half-requires returns returns-2 sub-result returns-3)
+count-spec = tie.close (tie.spec returns half-requires sub-places returns-2 returns-3)

@@ -98,7 +98,7 @@ returns c =
     (c .before .before .before .before .before .before .before .before .before .before .before .before .before .word-of-flag2 .ensures) (back _ _ (fits-last s) (c .before .before .before .before .before .before .before .before .before .before .before .before .word-of-float2 .ensures)) (c .before .before .before .before .before .before .before .before .before .before .before .word-of-flag3 .ensures) (back _ _ (fits-retry s) (c .before .before .before .before .before .before .before .before .before .before .word-of-float3 .ensures))
     (c .before .before .before .before .before .before .before .before .before .word-of-flag4 .ensures) (c .before .before .before .before .before .before .before .before .word-of-flag5 .ensures) (c .before .before .before .before .before .before .before .description-word .ensures)
     (back _ _ (fits-band s) (c .before .before .before .before .before .before .word-of-float4 .ensures)) (c .before .before .before .before .before .word-of-flag6 .ensures) (mod-eq-of-lt (small-group s)) (mod-eq-of-lt (small-rate s)) (c .before .before .before .before .word-of-flag7 .ensures)
-    (c .before .before .before .before .before .before .before .before .before .before .before .before .before .before .before .before .before .held-words .ensures) (c .before .before .before .before .before .before .before .before .before .before .before .before .before .before .before .before .held-words2 .ensures)
+    (c .before .before .before .before .before .before .before .before .before .before .before .before .before .before .before .before .before .held-words .ensures .0) (c .before .before .before .before .before .before .before .before .before .before .before .before .before .before .before .before .held-words2 .ensures .0)
 
 pub tag-words-spec : {M : Type 1} → statement M
 tag-words-spec =

@@ -1,7 +1,9 @@
 -- `tiers::grace::set_tier` meets its contract.
 use mathlib.Core.Path.{ap, sym, _∙_}
 use borrow.Author.Tests.{ne-eqb}
-use Rattle.tiers.specs.Tiers.{setTier}
+use denote.Ref.{now}
+use Rattle.tiers.specs.Tiers.{tabled, setTier}
+use Rattle.tiers.proofs.Laws.{set-at-once}
 use Rattle.table.specs.declared.tag.Grace.{Grace}
 use borrow.Author.Needs.{needs}
 use Rattle.tiers.proofs.grace.set_tier.Statement.{statement}
@@ -20,8 +22,9 @@ same-length-3 : tie.Need-same-length-3
 same-length-3 c = search needs
 
 returns : tie.Need-returns
-unfolding setTier
-returns c = simp (c .before .before .before .before .before .before .before .before .before .before .if1 .taken, c .before .before .before .before .before .before .set .ensures)
+returns c =
+    let a = c .before .before .before .before .before .before .before .before .before .before .before .before .before .before .before .args in
+    c .before .before .before .before .before .before .set .ensures ∙ sym (set-at-once (tabled (now (a .t)) (now (a .order)) (now (a .graces)) (now (a .words))) (a .k) (a .tier) (a .grace) (a .clock) (c .before .before .before .before .before .before .before .before .before .before .if1 .taken))
 
 set-requires-2 : tie.Need-set-requires-2
 set-requires-2 c κs = search needs
@@ -53,7 +56,7 @@ same-length-9 c = search needs
 
 returns-3 : tie.Need-returns-3
 unfolding setTier
-returns-3 c = simp (ne-eqb _ _ (c .before .before .before .before .before .before .before .before .before .before .before .before .if1 .left), ne-eqb _ _ (c .before .before .before .before .before .before .before .before .before .before .before .if2 .left), c .before .before .before .before .before .before .before .before .before .before .if3 .taken, c .before .before .before .before .before .before .set3 .ensures)
+returns-3 c = simp (c .before .before .before .before .before .before .before .before .before .before .if3 .taken, c .before .before .before .before .before .before .set3 .ensures)
 
 tier-of-requires : tie.Need-tier-of-requires
 tier-of-requires c κs = search needs
@@ -72,7 +75,7 @@ same-length-12 c = search needs
 
 returns-4 : tie.Need-returns-4
 unfolding setTier
-returns-4 c = simp (ne-eqb _ _ (c .before .before .before .before .before .before .before .before .before .before .before .before .before .before .before .if1 .left), ne-eqb _ _ (c .before .before .before .before .before .before .before .before .before .before .before .before .before .before .if2 .left), c .before .before .before .before .before .before .before .before .before .before .before .before .before .if3 .left, sym (c .before .before .before .before .before .before .before .before .before .before .before .tier-of .ensures) ∙ c .before .before .before .before .before .before .before .before .before .before .if4 .taken, c .before .before .before .before .before .before .enter-grace .ensures)
+returns-4 c = simp (ne-eqb _ _ (c .before .before .before .before .before .before .before .before .before .before .before .before .before .before .if2 .left), ne-eqb _ _ (c .before .before .before .before .before .before .before .before .before .before .before .before .before .if3 .left), c .before .before .before .before .before .before .before .before .before .before .before .before .before .before .before .if1 .left, sym (c .before .before .before .before .before .before .before .before .before .before .before .tier-of .ensures) ∙ c .before .before .before .before .before .before .before .before .before .before .if4 .taken, c .before .before .before .before .before .before .enter-grace .ensures)
 
 grace-of-requires : tie.Need-grace-of-requires
 grace-of-requires c κs = search needs
@@ -87,7 +90,7 @@ returns-5 : tie.Need-returns-5
 unfolding setTier
 returns-5 c =
     let a = c .before .before .before .before .before .before .before .before .before .before .before .before .before .before .before .before .before .args in
-    simp (ne-eqb _ _ (c .before .before .before .before .before .before .before .before .before .before .before .before .if1 .left), ne-eqb _ _ (c .before .before .before .before .before .before .before .before .before .before .before .if2 .left), c .before .before .before .before .before .before .before .before .before .before .if3 .left, ne-eqb _ _ (λ e. c .before .before .before .before .before .before .before .if4 .left (c .before .before .before .before .before .before .before .before .tier-of .ensures ∙ e)), ap (λ (g : Grace). g .on) (sym (c .before .before .before .before .before .grace-of .ensures)) ∙ c .before .before .before .before .if5 .taken, c .before .before .change-grace .ensures)
+    simp (ne-eqb _ _ (c .before .before .before .before .before .before .before .before .before .before .before .if2 .left), ne-eqb _ _ (c .before .before .before .before .before .before .before .before .before .before .if3 .left), c .before .before .before .before .before .before .before .before .before .before .before .before .if1 .left, ne-eqb _ _ (λ e. c .before .before .before .before .before .before .before .if4 .left (c .before .before .before .before .before .before .before .before .tier-of .ensures ∙ e)), ap (λ (g : Grace). g .on) (sym (c .before .before .before .before .before .grace-of .ensures)) ∙ c .before .before .before .before .if5 .taken, c .before .before .change-grace .ensures)
 
 set-requires-4 : tie.Need-set-requires-4
 set-requires-4 c κs = search needs
@@ -103,7 +106,7 @@ same-length-16 c = search needs
 
 returns-6 : tie.Need-returns-6
 unfolding setTier
-returns-6 c = simp (ne-eqb _ _ (c .before .before .before .before .before .before .before .before .before .before .before .before .before .before .before .before .before .before .if1 .left), ne-eqb _ _ (c .before .before .before .before .before .before .before .before .before .before .before .before .before .before .before .before .before .if2 .left), c .before .before .before .before .before .before .before .before .before .before .before .before .before .before .before .before .if3 .left, ne-eqb _ _ (λ e. c .before .before .before .before .before .before .before .before .before .before .before .before .before .if4 .left (c .before .before .before .before .before .before .before .before .before .before .before .before .before .before .tier-of .ensures ∙ e)), ap (λ (g : Grace). g .on) (sym (c .before .before .before .before .before .before .before .before .before .before .before .grace-of .ensures)) ∙ c .before .before .before .before .before .before .before .before .before .before .if5 .left, c .before .before .before .before .before .before .set4 .ensures)
+returns-6 c = simp (ne-eqb _ _ (c .before .before .before .before .before .before .before .before .before .before .before .before .before .before .before .before .before .if2 .left), ne-eqb _ _ (c .before .before .before .before .before .before .before .before .before .before .before .before .before .before .before .before .if3 .left), c .before .before .before .before .before .before .before .before .before .before .before .before .before .before .before .before .before .before .if1 .left, ne-eqb _ _ (λ e. c .before .before .before .before .before .before .before .before .before .before .before .before .before .if4 .left (c .before .before .before .before .before .before .before .before .before .before .before .before .before .before .tier-of .ensures ∙ e)), ap (λ (g : Grace). g .on) (sym (c .before .before .before .before .before .before .before .before .before .before .before .grace-of .ensures)) ∙ c .before .before .before .before .before .before .before .before .before .before .if5 .left, c .before .before .before .before .before .before .set4 .ensures)
 
 pub set-tier-spec : {M : Type 1} → statement M
 set-tier-spec =
