@@ -2,5 +2,6 @@
 // defined for every f64, infinities and NaN among them, and its contract gives the result outright,
 // by a definition of specs/.
 pub mod band;
+pub mod number;
 pub mod round;
 pub mod times;
