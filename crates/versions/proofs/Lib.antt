@@ -1,0 +1,2 @@
+-- `TakeLaws`: each element of a list replaced, by its place.
+pub mod TakeLaws

@@ -1,0 +1,2 @@
+-- Rule 8: version.
+pub mod Versions

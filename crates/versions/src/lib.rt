@@ -1,0 +1,4 @@
+// Rule 8: what a version answer changes.
+pub mod check;
+pub mod tag;
+pub mod version;
