@@ -1,14 +1,23 @@
 -- The head of an engine, and its constants.
 use mathlib.Core.Bool.{false, cond}
 use mathlib.Core.List.{List, [], _∷_}
-use Prim.Native.Nat.{ℕ, _/_, min}
+use Prim.Native.Nat.{ℕ, _/_, _%_, min}
 use lib.Dec.{ltb}
 use lib.Ieee.{Float, binary64, ofBits, add}
 use lib.ListN.{length, getD}
+use mir.Val.{toZ}
+use mir.Syntax.{w64}
 use Rattle.ieee.specs.Round.{float}
 use Rattle.memory.specs.Cells.{rowsIn, noRow}
 use Rattle.rounds.specs.declared.tick.Options.{Options}
 use Rattle.rounds.specs.declared.tick.Cycle.{Cycle}
+use Rattle.versions.specs.Versions.{versionFrom}
+use Rattle.engine.specs.Link.{freshLink, stateFrom}
+use Rattle.engine.specs.Progress.{freshProgress, phaseFrom, afterFrom}
+use Rattle.engine.specs.Stats.{freshStats}
+use Rattle.engine.specs.declared.link.Link.{Link}
+use Rattle.engine.specs.declared.progress.Progress.{Progress}
+use Rattle.engine.specs.declared.stats.Stats.{Stats}
 use Rattle.engine.specs.declared.Engine.{Engine}
 
 -- Rule 9: backoff 1, 2, 5, 10, 10...
@@ -21,7 +30,54 @@ retryAt start = add binary64 start (float 10)
 
 -- An engine that has done nothing yet.
 abbrev pub freshEngine : Options → ℕ → Engine
-freshEngine options count = record { options = options; cycle = record { begun = false; last = ofBits binary64 0; index = 0 }; clock = ofBits binary64 0; count = count }
+freshEngine options count = record {
+  options = options;
+  cycle = record { begun = false; last = ofBits binary64 0; index = 0 };
+  clock = ofBits binary64 0;
+  count = count;
+  link = freshLink;
+  progress = freshProgress;
+  stats = freshStats;
+}
+
+abbrev pub withLink : Engine → Link → Engine
+withLink e x = record { options = e .options; cycle = e .cycle; clock = e .clock; count = e .count; link = x; progress = e .progress; stats = e .stats }
+
+abbrev pub withProgress : Engine → Progress → Engine
+withProgress e x = record { options = e .options; cycle = e .cycle; clock = e .clock; count = e .count; link = e .link; progress = x; stats = e .stats }
+
+abbrev pub withStats : Engine → Stats → Engine
+withStats e x = record { options = e .options; cycle = e .cycle; clock = e .clock; count = e .count; link = e .link; progress = e .progress; stats = x }
+
+abbrev pub withCycle : Engine → Cycle → Engine
+withCycle e x = record { options = e .options; cycle = x; clock = e .clock; count = e .count; link = e .link; progress = e .progress; stats = e .stats }
+
+abbrev pub withClock : Engine → Float → Engine
+withClock e x = record { options = e .options; cycle = e .cycle; clock = x; count = e .count; link = e .link; progress = e .progress; stats = e .stats }
+
+abbrev pub linkFrom : ℕ → ℕ → ℕ → ℕ → ℕ → Link
+linkFrom state stopping known number attempt = record { state = stateFrom state; stopping = ltb 0 stopping; version = versionFrom known number; attempt = attempt }
+
+abbrev pub progressFrom : ℕ → ℕ → ℕ → ℕ → ℕ → ℕ → Progress
+progressFrom phase after start tick boundary tag = record {
+  phase = phaseFrom phase;
+  after = afterFrom after;
+  start = ofBits binary64 start;
+  tick = ofBits binary64 tick;
+  boundary = ltb 0 boundary;
+  tag = tag % 65536;
+}
+
+abbrev pub statsFrom : ℕ → ℕ → ℕ → ℕ → ℕ → ℕ → ℕ → Stats
+statsFrom timed ms ts tags overruns reconnects reloads = record {
+  timed = ltb 0 timed;
+  ms = ofBits binary64 ms;
+  ts = toZ w64 ts;
+  tags = tags;
+  overruns = overruns;
+  reconnects = reconnects;
+  reloads = reloads;
+}
 
 -- the head that a row holds
 unfoldable pub engineFrom : List ℕ → Engine
@@ -29,7 +85,10 @@ engineFrom ws = record {
   options = record { cycle = ofBits binary64 (getD ws 0 0); period = ofBits binary64 (getD ws 1 0); grace = ofBits binary64 (getD ws 2 0) };
   cycle = record { begun = ltb 0 (getD ws 3 0); last = ofBits binary64 (getD ws 4 0); index = getD ws 5 0 };
   clock = ofBits binary64 (getD ws 6 0);
-  count = getD ws 7 0;
+  count = getD ws 7 0 % 65536;
+  link = linkFrom (getD ws 8 0) (getD ws 9 0) (getD ws 10 0) (getD ws 11 0) (getD ws 12 0);
+  progress = progressFrom (getD ws 13 0) (getD ws 14 0) (getD ws 15 0) (getD ws 16 0) (getD ws 17 0) (getD ws 18 0);
+  stats = statsFrom (getD ws 19 0) (getD ws 20 0) (getD ws 21 0) (getD ws 22 0) (getD ws 23 0) (getD ws 24 0) (getD ws 25 0);
 }
 
 -- the head that lent memory holds, in its first row

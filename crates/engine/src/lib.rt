@@ -1,17 +1,26 @@
-// The head of an engine: what it keeps beside the table. It is one row of lent memory.
+// The head of an engine: what it keeps beside its board. It is one row of lent memory.
 pub mod codec;
+pub mod link;
+pub mod progress;
+pub mod stats;
 
 ghost use mathlib.Core.Path.{_≡_};
-ghost use Rattle.engine.specs.Engine.{freshEngine, engineIn, stored, backoffAt, retryAt};
+ghost use Rattle.engine.specs.Engine.{freshEngine, engineIn, stored, backoffAt, retryAt, withLink, withProgress, withStats, withCycle, withClock};
+use link::Link;
+use progress::Progress;
 use rounds::tick::Cycle;
 use rounds::tick::Options;
+use stats::Stats;
 
 // `clock` is the last reading accepted, `count` how many names the directory has.
 pub struct Engine {
     pub options: Options,
     pub cycle: Cycle,
     pub clock: f64,
-    pub count: u64,
+    pub count: u16,
+    pub link: Link,
+    pub progress: Progress,
+    pub stats: Stats,
 }
 
 impl Engine {
@@ -20,7 +29,7 @@ impl Engine {
     // Seconds before a missing tag is asked for again.
     pub const MISSING_RETRY: f64 = 10.0;
 
-    pub fn fresh(options: Options, count: u64) -> Engine
+    pub fn fresh(options: Options, count: u16) -> Engine
         ensures { λ r. ⌜ r ≡ freshEngine options count ⌝ }
     {
         let cycle = Cycle {
@@ -28,11 +37,17 @@ impl Engine {
             last: 0.0,
             index: 0,
         };
+        let link = Link::fresh();
+        let progress = Progress::fresh();
+        let stats = Stats::fresh();
         Engine {
             options: options,
             cycle: cycle,
             clock: 0.0,
             count: count,
+            link: link,
+            progress: progress,
+            stats: stats,
         }
     }
 
@@ -53,6 +68,97 @@ impl Engine {
         ensures { λ r. ⌜ r ≡ retryAt start ⌝ }
     {
         start + Engine::MISSING_RETRY
+    }
+}
+
+pub fn with_link(e: Engine, link: Link) -> Engine
+    ensures { λ r. ⌜ r ≡ withLink e link ⌝ }
+{
+    let options = e.options;
+    let cycle = e.cycle;
+    let progress = e.progress;
+    let stats = e.stats;
+    Engine {
+        options: options,
+        cycle: cycle,
+        clock: e.clock,
+        count: e.count,
+        link: link,
+        progress: progress,
+        stats: stats,
+    }
+}
+
+pub fn with_progress(e: Engine, progress: Progress) -> Engine
+    ensures { λ r. ⌜ r ≡ withProgress e progress ⌝ }
+{
+    let options = e.options;
+    let cycle = e.cycle;
+    let link = e.link;
+    let stats = e.stats;
+    Engine {
+        options: options,
+        cycle: cycle,
+        clock: e.clock,
+        count: e.count,
+        link: link,
+        progress: progress,
+        stats: stats,
+    }
+}
+
+pub fn with_stats(e: Engine, stats: Stats) -> Engine
+    ensures { λ r. ⌜ r ≡ withStats e stats ⌝ }
+{
+    let options = e.options;
+    let cycle = e.cycle;
+    let link = e.link;
+    let progress = e.progress;
+    Engine {
+        options: options,
+        cycle: cycle,
+        clock: e.clock,
+        count: e.count,
+        link: link,
+        progress: progress,
+        stats: stats,
+    }
+}
+
+pub fn with_cycle(e: Engine, cycle: Cycle) -> Engine
+    ensures { λ r. ⌜ r ≡ withCycle e cycle ⌝ }
+{
+    let options = e.options;
+    let link = e.link;
+    let progress = e.progress;
+    let stats = e.stats;
+    Engine {
+        options: options,
+        cycle: cycle,
+        clock: e.clock,
+        count: e.count,
+        link: link,
+        progress: progress,
+        stats: stats,
+    }
+}
+
+pub fn with_clock(e: Engine, clock: f64) -> Engine
+    ensures { λ r. ⌜ r ≡ withClock e clock ⌝ }
+{
+    let options = e.options;
+    let cycle = e.cycle;
+    let link = e.link;
+    let progress = e.progress;
+    let stats = e.stats;
+    Engine {
+        options: options,
+        cycle: cycle,
+        clock: clock,
+        count: e.count,
+        link: link,
+        progress: progress,
+        stats: stats,
     }
 }
 

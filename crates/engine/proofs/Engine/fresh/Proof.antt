@@ -1,0 +1,19 @@
+-- `engine::Engine::fresh` meets its contract.
+use borrow.Author.Needs.{needs}
+use Rattle.engine.proofs.Engine.fresh.Statement.{statement}
+use Rattle.engine.proofs.Engine.fresh.Tie as tie
+
+fresh-requires : tie.Need-fresh-requires
+fresh-requires c κs = search needs
+
+fresh-requires-2 : tie.Need-fresh-requires-2
+fresh-requires-2 c κs = search needs
+
+fresh-requires-3 : tie.Need-fresh-requires-3
+fresh-requires-3 c κs = search needs
+
+returns : tie.Need-returns
+returns c = simp (c .fresh3 .ensures, c .before .fresh2 .ensures, c .before .before .fresh .ensures)
+
+pub fresh-spec : {M : Type 1} → statement M
+fresh-spec = tie.close (tie.spec fresh-requires fresh-requires-2 fresh-requires-3 returns)
