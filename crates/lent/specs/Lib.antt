@@ -1,0 +1,3 @@
+-- What is written into lent lists. Definitions only.
+pub mod Lent
+pub mod Changes

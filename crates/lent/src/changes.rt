@@ -1,0 +1,35 @@
+// Changes: for each tag of a list, the tag and the six words of its published entry.
+ghost use mathlib.Core.Path.{_≡_};
+ghost use Rattle.memory.specs.Lists.{listIn};
+ghost use Rattle.table.specs.Table.{tableIn};
+ghost use Rattle.lent.specs.Lent.{recordPut, wroteAll, records};
+ghost use Rattle.lent.specs.Changes.{changeCells};
+use super::put_record;
+use memory::tags::at;
+use memory::tags::count;
+use table::fields::published_of;
+use words::entry::held_words;
+
+fn put_change(out: &mut [u8], i: usize, table: &[u8], k: usize)
+    ensures { λ _. ⌜ now (out .exit) ≡ recordPut (now (out .entry)) i (changeCells (tableIn (now (table .entry))) k) ⌝ }
+{
+    let published = published_of(table, k);
+    let w = held_words(published);
+    let cells = [k as u64, w.held, w.kind, w.word, w.t, w.error, w.message];
+    put_record(out, i, &cells);
+}
+
+// Where there is no room for all of the records nothing is written.
+pub fn put_changes(out: &mut [u8], table: &[u8], list: &[u8])
+    ensures { λ _. ⌜ now (out .exit) ≡ wroteAll (now (out .entry)) (records (changeCells (tableIn (now (table .entry)))) (listIn (now (list .entry)))) ⌝ }
+{
+    let n = count(list);
+    if out.len() / 56 < n {
+        return;
+    }
+    let mut i: usize = 0;
+    while i < n {
+        put_change(out, 7 * i, table, at(list, i));
+        i += 1;
+    }
+}
