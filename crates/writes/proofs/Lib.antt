@@ -1,0 +1,3 @@
+-- Laws of the queue of writes and of the read-back.
+pub mod QueueLaws
+pub mod ReadBackLaws

@@ -1,0 +1,3 @@
+-- Rule 8: the queue of writes, and the read-back.
+pub mod Queue
+pub mod ReadBack
