@@ -1,0 +1,2 @@
+-- Laws of descriptions.
+pub mod Laws
