@@ -1,0 +1,4 @@
+-- The board: all that an engine keeps beside its head.
+pub mod Regions
+pub mod Board
+pub mod Creation
