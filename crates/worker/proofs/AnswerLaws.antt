@@ -1,0 +1,51 @@
+-- What is asked or told at once, with a list or with none.
+use mathlib.Core.Path.{_≡_, refl, ap, sym, _∙_, subst}
+use mathlib.Core.Bool.{true, false, true≢false}
+use mathlib.Core.List.{List, [], _∷_}
+use Prim.Native.Nat.{ℕ}
+use lib.Dec.{eqb, eqb·suc-zero}
+use lib.ListN.{length}
+use Rattle.lent.specs.Lent.{wroteAll, records}
+use Rattle.board.specs.Board.{Board, boardIn, changesIn}
+use Rattle.engine.specs.declared.Engine.{Engine}
+use Rattle.engine.specs.declared.progress.Phase.{Phase}
+use Rattle.worker.specs.declared.reply.Reply.{Reply}
+use Rattle.worker.specs.declared.reply.Said.{Said}
+use Rattle.worker.specs.Losing.{isEmpty}
+use Rattle.worker.specs.Worker.{Told, tell, asks, worker, phased, saidIn, Done}
+use Rattle.worker.proofs.DoneLaws.{wrote-nothing}
+
+-- no element and the length 0 are the same
+pub empty-is : {A : Type 0} → (l : List A) → eqb (length l) 0 ≡ isEmpty l
+empty-is [] = refl
+empty-is (x ∷ l) = eqb·suc-zero (length l)
+
+-- something that carries no list
+pub asked-done : (e : Engine) (B : Board) (p : Phase) (r : Reply) (s : Said) (board' out : List ℕ) → s ≡ saidIn e p r → boardIn board' ≡ B → Done (asks (worker e B) p r) s board' out out
+asked-done e B p r s board' out said kept = record {
+  head-is = ap (λ (x : Said). x .head) said;
+  board-is = kept;
+  reply-is = ap (λ (x : Said). x .reply) said;
+  out-is = sym (wrote-nothing out);
+  silent = λ h. refl;
+}
+
+-- something that carries a list
+pub told-done : (e : Engine) (B : Board) (p : Phase) (r : Reply) (cells : List ℕ) (s : Said) (board' out out' : List ℕ) → s ≡ saidIn e p r → boardIn board' ≡ B → out' ≡ wroteAll out cells → eqb (r .kind) 0 ≡ false → Done (tell (phased (worker e B) p) r cells) s board' out out'
+told-done e B p r cells s board' out out' said kept wrote told = record {
+  head-is = ap (λ (x : Said). x .head) said;
+  board-is = kept;
+  reply-is = ap (λ (x : Said). x .reply) said;
+  out-is = wrote;
+  silent = λ h. absurd (true≢false (sym h ∙ told));
+}
+
+-- no change writes nothing
+pub no-changes : (B : Board) (changes out out' : List ℕ) → isEmpty changes ≡ true → out' ≡ wroteAll out (changesIn B changes) → out' ≡ out
+unfolding records
+no-changes B [] out out' h wrote = wrote ∙ wrote-nothing out
+no-changes B (k ∷ ks) out out' h wrote = absurd (true≢false (sym h))
+
+-- a call before this one left the lent list as it was
+pub done-from : (T : Told) (s : Said) (board' before out out' : List ℕ) → out ≡ before → Done T s board' out out' → Done T s board' before out'
+done-from T s board' before out out' e h = subst (λ (o : List ℕ). Done T s board' o out') e h
