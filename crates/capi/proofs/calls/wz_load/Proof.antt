@@ -1,0 +1,74 @@
+-- `capi::calls::wz_load` meets its contract.
+use Rattle.capi.proofs.CallLaws.{alien-call, refused-call, done-call}
+use Rattle.capi.specs.Calls.{loadCheck}
+use Rattle.capi.specs.Memory.{workerIn}
+use Rattle.worker.specs.Worker.{Worker, worker}
+use Rattle.board.specs.Board.{withTable}
+use Rattle.engine.specs.declared.Engine.{Engine}
+use Rattle.engine.specs.Engine.{withClock}
+use Rattle.panel.specs.Panel.{loadedList}
+use mathlib.Core.Path.{refl, ap, ap₂, sym, _∙_}
+use denote.Ref.{now}
+use borrow.Author.Needs.{needs}
+use Rattle.capi.proofs.calls.wz_load.Statement.{statement}
+use Rattle.capi.proofs.calls.wz_load.Tie as tie
+
+returns : tie.Need-returns
+returns c = alien-call _ _ _ (c .if1 .taken)
+
+head-of-requires : tie.Need-head-of-requires
+head-of-requires c κs = search needs
+
+load-check-requires : tie.Need-load-check-requires
+load-check-requires c κs = search needs
+
+same-length : tie.Need-same-length
+same-length c = search needs
+
+returns-2 : tie.Need-returns-2
+returns-2 c =
+    let a = c .before .before .before .before .before .before .before .before .args in
+    let bs = now (a .mem) in
+    refused-call bs _ _ _ (c .before .before .before .before .before .if1 .left)
+    (c .before .load-check .ensures ∙ ap (λ (x : Engine). loadCheck (worker x (workerIn bs .board)) (a .clock) (now (a .list))) (c .before .before .before .head-of .ensures))
+    (c .if2 .taken)
+
+with-clock-requires : tie.Need-with-clock-requires
+with-clock-requires c κs = search needs
+
+load-panel-requires : tie.Need-load-panel-requires
+load-panel-requires c κs = search needs
+
+put-head-requires : tie.Need-put-head-requires
+put-head-requires c κs = search needs
+
+same-length-2 : tie.Need-same-length-2
+same-length-2 c = search needs
+
+returns-3 : tie.Need-returns-3
+returns-3 c =
+    let a = c .before .before .before .before .before .before .before .before .before .before .before .before .before .before .before .before .before .before .args in
+    let bs = now (a .mem) in
+    let e = c .before .before .before .before .before .before .before .before .before .before .before .before .before .head-of in
+    done-call bs _ _ _ (c .before .before .before .before .before .before .before .before .before .before .before .before .before .before .before .if1 .left)
+    (sym (c .before .before .before .before .before .before .before .before .before .before .if2 .left) ∙ c .before .before .before .before .before .before .before .before .before .before .before .load-check .ensures ∙ ap (λ (x : Engine). loadCheck (worker x (workerIn bs .board)) (a .clock) (now (a .list))) (e .ensures))
+    (c .before .before .put-head .ensures
+    ∙ ap (λ (x : Engine). worker x (workerIn (c .before .before .before .before .before .before .load-panel .last .0) .board)) (c .before .before .before .before .before .before .before .before .with-clock .ensures)
+    ∙ ap (λ (w : Worker). worker (withClock (e .result) (a .clock)) (w .board)) (c .before .before .before .before .before .before .load-panel .ensures)
+    ∙ ap (λ (x : Engine). worker (withClock x (a .clock)) (withTable (workerIn bs .board) (loadedList (workerIn bs .board .table) (now (a .list)) (x .options .grace) (a .clock)))) (e .ensures))
+    (search needs)
+
+pub wz-load-spec : {M : Type 1} → statement M
+wz-load-spec =
+    tie.close
+    (tie.spec
+    returns
+    head-of-requires
+    load-check-requires
+    same-length
+    returns-2
+    with-clock-requires
+    load-panel-requires
+    put-head-requires
+    same-length-2
+    returns-3)

@@ -1,0 +1,91 @@
+-- `capi::calls::wz_set_tier` meets its contract.
+use Rattle.capi.proofs.CallLaws.{alien-call, refused-call, done-call, tier-passed}
+use Rattle.capi.specs.Calls.{tierCheck}
+use Rattle.capi.specs.Memory.{workerIn}
+use Rattle.worker.specs.Worker.{Worker, worker}
+use Rattle.board.specs.Board.{withTable}
+use Rattle.engine.specs.declared.Engine.{Engine}
+use Rattle.engine.specs.Engine.{withClock}
+use Rattle.tiers.specs.Tiers.{setTier}
+use native.Mathlib.Omega.{arith}
+use mathlib.Core.Path.{refl, ap, ap₂, sym, _∙_}
+use denote.Ref.{now}
+use borrow.Author.Needs.{needs}
+use Rattle.capi.proofs.calls.wz_set_tier.Statement.{statement}
+use Rattle.capi.proofs.calls.wz_set_tier.Tie as tie
+
+returns : tie.Need-returns
+returns c = alien-call _ _ _ (c .if1 .taken)
+
+head-of-requires : tie.Need-head-of-requires
+head-of-requires c κs = search needs
+
+tier-check-requires : tie.Need-tier-check-requires
+tier-check-requires c κs = search needs
+
+same-length : tie.Need-same-length
+same-length c = search needs
+
+returns-2 : tie.Need-returns-2
+returns-2 c =
+    let a = c .before .before .before .before .before .before .args in
+    let bs = now (a .mem) in
+    refused-call bs _ _ _ (c .before .before .before .before .if1 .left)
+    (c .before .tier-check .ensures (workerIn bs .board) ∙ ap (λ (x : Engine). tierCheck (worker x (workerIn bs .board)) (a .clock) (a .tag) (a .tier)) (c .before .before .head-of .ensures))
+    (c .if2 .taken)
+
+with-clock-requires : tie.Need-with-clock-requires
+with-clock-requires c κs = search needs
+
+cast-set-tier : tie.Need-cast-set-tier
+cast-set-tier c =
+    let a = c .before .before .before .before .before .before .before .before .before .args in
+    let e = c .before .before .before .before .before .head-of in
+    let p = tier-passed (worker (e .result) (workerIn (now (a .mem)) .board)) (a .clock) (a .tag) (a .tier) (sym (c .before .before .before .before .tier-check .ensures _) ∙ c .before .before .before .if2 .left) in
+    search (needs, p .0)
+
+cast-set-tier-2 : tie.Need-cast-set-tier-2
+cast-set-tier-2 c =
+    let a = c .before .before .before .before .before .before .before .before .before .args in
+    let e = c .before .before .before .before .before .head-of in
+    let p = tier-passed (worker (e .result) (workerIn (now (a .mem)) .board)) (a .clock) (a .tag) (a .tier) (sym (c .before .before .before .before .tier-check .ensures _) ∙ c .before .before .before .if2 .left) in
+    search (needs, p .1)
+
+set-tier-requires : tie.Need-set-tier-requires
+set-tier-requires c κs = search needs
+
+put-head-requires : tie.Need-put-head-requires
+put-head-requires c κs = search needs
+
+same-length-2 : tie.Need-same-length-2
+same-length-2 c = search needs
+
+returns-3 : tie.Need-returns-3
+returns-3 c =
+    let a = c .before .before .before .before .before .before .before .before .before .before .before .before .before .before .before .before .args in
+    let bs = now (a .mem) in
+    let e = c .before .before .before .before .before .before .before .before .before .before .before .before .head-of in
+    done-call bs _ _ _ (c .before .before .before .before .before .before .before .before .before .before .before .before .before .before .if1 .left)
+    (sym (c .before .before .before .before .before .before .before .before .before .before .if2 .left) ∙ c .before .before .before .before .before .before .before .before .before .before .before .tier-check .ensures (workerIn bs .board) ∙ ap (λ (x : Engine). tierCheck (worker x (workerIn bs .board)) (a .clock) (a .tag) (a .tier)) (e .ensures))
+    (c .before .before .put-head .ensures
+    ∙ ap (λ (x : Engine). worker x (workerIn (c .before .before .before .before .before .before .set-tier .last .0) .board)) (c .before .before .before .before .before .before .before .before .with-clock .ensures)
+    ∙ ap (λ (w : Worker). worker (withClock (e .result) (a .clock)) (w .board)) (c .before .before .before .before .before .before .set-tier .ensures)
+    ∙ ap (λ (x : Engine). worker (withClock x (a .clock)) (withTable (workerIn bs .board) (setTier (workerIn bs .board .table) (a .tag) (a .tier) (x .options .grace) (a .clock)))) (e .ensures))
+    (search needs)
+
+pub wz-set-tier-spec : {M : Type 1} → statement M
+wz-set-tier-spec =
+    tie.close
+    (tie.spec
+    returns
+    head-of-requires
+    tier-check-requires
+    same-length
+    returns-2
+    with-clock-requires
+    cast-set-tier
+    cast-set-tier-2
+    set-tier-requires
+    put-head-requires
+    same-length-2
+    returns-3)

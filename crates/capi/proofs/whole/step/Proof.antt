@@ -1,0 +1,62 @@
+-- `capi::whole::step` meets its contract.
+use mathlib.Core.Path.{ap}
+use denote.Ref.{now}
+use mir.Val.{SFits}
+use mir.Syntax.{w64}
+use mir.Facts.{toZ-ofZ}
+use lib.ListN.{length}
+use Rattle.worker.specs.Worker.{At, at, worker}
+use Rattle.worker.specs.Answers.{answer, step}
+use Rattle.capi.specs.Memory.{workerIn}
+use Rattle.capi.proofs.CallLaws.{step-put}
+use borrow.Author.Needs.{needs}
+use Rattle.capi.proofs.whole.step.Statement.{statement}
+use Rattle.capi.proofs.whole.step.Tie as tie
+
+sub-step : tie.Need-sub-step
+sub-step c = search needs
+
+part-step-start : tie.Need-part-step-start
+part-step-start c = search needs
+
+part-step-end : tie.Need-part-step-end
+part-step-end c = search needs
+
+step-requires : tie.Need-step-requires
+step-requires c κs = search needs
+
+same-length : tie.Need-same-length
+same-length c = search needs
+
+same-length-2 : tie.Need-same-length-2
+same-length-2 c = search needs
+
+fits-wall : (s : tie.Start) → SFits w64 (s .args .wall)
+fits-wall s = search needs
+
+returns : tie.Need-returns
+unfolding workerIn
+returns c =
+    let s = c .before .before .before .before .before .before .before .before .before .before in
+    let a = s .args in
+    let f = c .before .before .before .before .step in
+    let bs = now (a .mem) in
+    let W = worker (a .e) (workerIn bs .board) in
+    let x = answer (a .a) (now (a .list)) in
+    let fit : SFits w64 (a .wall) = fits-wall s in
+    step-put bs (f .last .0) (now (a .out)) (f .last .1 .0) (f .result)
+    (step W (at (a .clock) _) x (length (now (a .out))))
+    (step W (at (a .clock) (a .wall)) x (length (now (a .out))))
+    (s .pre) (f .kept .0) (ap (λ (t : At). step W t x (length (now (a .out)))) (ap (at (a .clock)) (toZ-ofZ fit))) (f .ensures)
+
+pub step-spec : {M : Type 1} → statement M
+step-spec =
+    tie.close
+    (tie.spec
+    sub-step
+    part-step-start
+    part-step-end
+    step-requires
+    same-length
+    same-length-2
+    returns)

@@ -1,0 +1,81 @@
+// The checks of tier calls, loads and writes, in document 01's order.
+ghost use mathlib.Core.Path.{_≡_};
+ghost use lib.ListN.{length};
+ghost use Rattle.board.specs.Board.{Board};
+ghost use Rattle.worker.specs.Worker.{worker};
+ghost use Rattle.capi.specs.Memory.{memorySize, workerIn};
+ghost use Rattle.capi.specs.Calls.{clockCheck, tierCheck, loadCheck, writeCheck};
+use super::whole::head_of;
+use engine::Engine;
+use engine::link::State;
+use engine::link::is_state;
+use ieee::times::is_clock;
+use readings::results::is_finite_value;
+use values::value::Value;
+
+fn clock_check(e: Engine, clock: f64) -> u32
+    ensures { λ r. ⌜ ((B : Board) → r ≡ clockCheck (worker e B) clock) ⌝ }
+{
+    if !is_clock(clock) {
+        return 21;
+    }
+    if clock < e.clock {
+        return 22;
+    }
+    0
+}
+
+pub fn tier_check(e: Engine, clock: f64, tag: u32, tier: u32) -> u32
+    ensures { λ r. ⌜ ((B : Board) → r ≡ tierCheck (worker e B) clock tag tier) ⌝ }
+{
+    let n = clock_check(e, clock);
+    if n != 0 {
+        return n;
+    }
+    if e.count as u32 <= tag {
+        return 23;
+    }
+    if 3 < tier {
+        return 24;
+    }
+    0
+}
+
+pub fn load_check(mem: &[u8], e: Engine, clock: f64, list: &[u8]) -> u32
+    requires { ⌜ length (now mem) ≡ memorySize ⌝ }
+    ensures { λ r. ⌜ r ≡ loadCheck (worker e (workerIn (now (mem .entry)) .board)) clock (now (list .entry)) ⌝ }
+{
+    let n = clock_check(e, clock);
+    if n != 0 {
+        return n;
+    }
+    let m = panel::check::check_panel(list, e.count as usize);
+    if m != 0 {
+        return m as u32;
+    }
+    if board::calls::in_tiers(&mem[256..38400]) == 0 {
+        return 0;
+    }
+    56
+}
+
+pub fn write_check(mem: &[u8], tag: u32, value: Value) -> u32
+    requires { ⌜ length (now mem) ≡ memorySize ⌝ }
+    ensures { λ r. ⌜ r ≡ writeCheck (workerIn (now (mem .entry))) tag value ⌝ }
+{
+    let e = head_of(mem);
+    if e.count as u32 <= tag {
+        return 23;
+    }
+    let link = e.link;
+    if !is_state(link, State::Connected) {
+        return 31;
+    }
+    if 32 <= board::queue::queued(&mem[256..38400]) {
+        return 32;
+    }
+    if is_finite_value(value) {
+        return 0;
+    }
+    42
+}

@@ -1,0 +1,72 @@
+// Creation.
+ghost use mathlib.Core.Path.{_≡_};
+ghost use Rattle.capi.specs.Memory.{Called};
+ghost use Rattle.capi.specs.Creation.{creationCheck, freshWorker};
+use super::whole::MEMORY;
+use super::whole::NOT_AN_ENGINE;
+use super::whole::create;
+use super::whole::put_head;
+use engine::Engine;
+use rounds::tick::Options;
+
+// 0, or the number of the check that refuses.
+fn creation_check<'a>(
+    names: &'a [u8],
+    ends: &'a [u32],
+    o: Options,
+    settings: &[u8],
+    groups: &[u8],
+) -> u32
+    ensures { λ r. ⌜ r ≡ creationCheck (record { names = now (names .entry); ends = now (ends .entry); options = o; settings = now (settings .entry); groups = now (groups .entry) }) ⌝ }
+{
+    let n = names::directory::check_directory(names, ends);
+    if n != 0 {
+        return n as u32;
+    }
+    let m = rounds::options::check_options(o);
+    if m != 0 {
+        return m as u32;
+    }
+    if !settings::setting::check_settings(settings, ends.len()) {
+        return 14;
+    }
+    if !settings::configured::check_configured(groups) {
+        return 14;
+    }
+    0
+}
+
+// An engine in lent memory. The names and all else that is handed in are needed for this call alone.
+#[no_mangle]
+pub extern "C" fn wz_create<'a>(
+    mem: &mut [u8],
+    names: &'a [u8],
+    ends: &'a [u32],
+    cycle: f64,
+    period: f64,
+    grace: f64,
+    settings: &[u8],
+    groups: &[u8],
+) -> u32
+    ensures { λ r. ⌜ Called (now (mem .entry)) (now (mem .exit)) r
+        (creationCheck (record { names = now (names .entry); ends = now (ends .entry); options = record { cycle = cycle; period = period; grace = grace }; settings = now (settings .entry); groups = now (groups .entry) }))
+        (freshWorker (record { names = now (names .entry); ends = now (ends .entry); options = record { cycle = cycle; period = period; grace = grace }; settings = now (settings .entry); groups = now (groups .entry) })) ⌝ }
+{
+    if mem.len() != MEMORY {
+        return NOT_AN_ENGINE;
+    }
+    let o = Options {
+        cycle: cycle,
+        period: period,
+        grace: grace,
+    };
+    let n = creation_check(names, ends, o, settings, groups);
+    if n != 0 {
+        return n;
+    }
+    let count = (ends.len() % 65536) as u16;
+    let fresh = Engine::fresh(o, count);
+    create(mem, names, ends, settings, groups);
+    put_head(mem, fresh);
+    0
+}
