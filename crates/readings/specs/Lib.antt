@@ -2,3 +2,4 @@
 pub mod Apply
 pub mod Stale
 pub mod Results
+pub mod Order

@@ -77,8 +77,8 @@ applyNext n S k r start t polled = record {
   sent = cond (sentAt (S .tags) k r t polled) (pushed n (S .sent) (k % 65536)) (S .sent);
 }
 
--- Rule 7: the readings of the tags of a list, the first of which is result i. A reading changes its own tag alone, and a list names a tag once,
--- so the order of tags shows in the changes only, which `inTagOrder` puts right.
+-- Rule 7: the readings of the tags of a list, the first of which is result i, in the order of the list. Where the list names no tag twice this comes, with
+-- `inTagOrder`, to the same as rule 7's tag order, `applyInOrder` of `Order`: the law `tag-order` of `OrderLaws`.
 unfoldable pub applyFrom : ℕ → List ℕ → Float → ℤ → Bool → ℕ → List ℕ → Applying → Applying
 applyFrom n results start t polled i [] S = S
 applyFrom n results start t polled i (k ∷ ks) S = applyFrom n results start t polled (suc i) ks (applyNext n S k (resultIn results i) start t polled)
