@@ -3,7 +3,7 @@
 use mathlib.Core.Path.{_≡_, refl, ap, sym, _∙_}
 use mathlib.Core.Bool.{Bool, true, false, not, _&&_, cond, true≢false}
 use mathlib.Core.List.{List, [], _∷_, _++_, append-nil}
-use Prim.Native.Nat.{ℕ, zero, suc, _+_, _%_, _≤_, _<_, min}
+use Prim.Native.Nat.{ℕ, zero, suc, _+_, _≤_, _<_, min}
 use native.Mathlib.Nat.{add-zero, zero-add, mod-eq-of-lt}
 use native.Mathlib.Omega.{arith}
 use borrow.Author.Tests.{eqb-true, eqb-false, eq-eqb, ne-eqb, ltb-true, ltb-false}
@@ -22,6 +22,7 @@ use Rattle.table.specs.Table.{tableIn}
 use Rattle.table.specs.declared.tag.Tag.{Tag}
 use Rattle.rounds.specs.Room.{fitted}
 use Rattle.rounds.specs.Added.{byRank}
+use Rattle.rounds.proofs.OnceLaws.{count-take}
 use Rattle.readings.specs.Apply.{tagApplied, isSent, appliedAt, sentAt}
 use Rattle.readings.specs.Results.{Applying, resultCount, resultIn, applyNext, applyFrom, applyAll, inTagOrder, AppliedAll}
 use Rattle.readings.specs.Order.{placeIn, ownResult, applyTurn, applyTurns, applyInOrder}
@@ -52,11 +53,6 @@ member-snoc j k (x ∷ l) = ap (λ (b : Bool). cond (eqb j x) true b) (member-sn
     go true true = refl
     go true false = refl
     go false b = refl
-
-count-take : (k n : ℕ) (l : List ℕ) → count k (take n l) ≤ count k l
-count-take k zero l = omega arith
-count-take k (suc n) [] = omega arith
-count-take k (suc n) (x ∷ l) = omega (arith, count-take k n l)
 
 keep-same : (p q : ℕ → Bool) → ((k : ℕ) → p k ≡ q k) → (l : List ℕ) → keep p l ≡ keep q l
 unfolding keep

@@ -25,7 +25,7 @@ below-more : (n m : ℕ) (l : List ℕ) → n ≤ m → Below n l → Below m l
 below-more n m [] h b = tt
 below-more n m (x ∷ l) h b = (omega (arith, b .0), below-more n m l h (b .1))
 
-below-up-to : (k : ℕ) → Below k (upTo k)
+pub below-up-to : (k : ℕ) → Below k (upTo k)
 unfolding upTo
 below-up-to zero = tt
 below-up-to (suc k) = below-append (suc k) (upTo k) (k ∷ []) (below-more k (suc k) (upTo k) (omega arith) (below-up-to k)) (omega arith, tt)

@@ -3,6 +3,7 @@ pub mod AddedLaws
 pub mod DueLaws
 pub mod GraceLaws
 pub mod NameLaws
+pub mod OnceLaws
 pub mod RoundLaws
 pub mod SliceLaws
 pub mod SlotLaws

@@ -33,14 +33,14 @@ listed-run-out T (k ∷ ks) l b =
     let after = tagAt T k .grace .after in
     listed-run-out (setTable T k after) ks (listed-set T l k after (b .0)) (rw (set-long T l k (b .0) after) (b .1))
 
-run-out-long : (T : Table) (ks : List ℕ) → Listed T → Below (length (T .tags)) ks → length (runOut T ks .tags) ≡ length (T .tags)
+pub run-out-long : (T : Table) (ks : List ℕ) → Listed T → Below (length (T .tags)) ks → length (runOut T ks .tags) ≡ length (T .tags)
 unfolding runOut
 run-out-long T [] l b = refl
 run-out-long T (k ∷ ks) l b =
     let after = tagAt T k .grace .after in
     run-out-long (setTable T k after) ks (listed-set T l k after (b .0)) (rw (set-long T l k (b .0) after) (b .1)) ∙ set-long T l k (b .0) after
 
-expired-below : (T : Table) → Listed T → (boundary : Bool) (room : ℕ) (clock : Float) → Below (length (T .tags)) (expiredAt boundary room (T .tags) (T .graces) clock)
+pub expired-below : (T : Table) → Listed T → (boundary : Bool) (room : ℕ) (clock : Float) → Below (length (T .tags)) (expiredAt boundary room (T .tags) (T .graces) clock)
 expired-below T l true room clock = below-take (length (T .tags)) room (keep (hasRunOut (T .tags) clock) (T .graces)) (below-keep (length (T .tags)) (hasRunOut (T .tags) clock) (T .graces) (l .graced))
 expired-below T l false room clock = tt
 
