@@ -1,17 +1,19 @@
--- What `find` answers: a tag that has the name, or that none has; among rising names it is the only one.
+-- What `find` answers: a tag that has the name, or that none has; among rising names it is the only one. No tag is its own word.
 use mathlib.Core.Path.{_≡_, refl, ap, sym, _∙_}
 use mathlib.Core.Bool.{Bool, true, false, cond, true≢false}
 use mathlib.Core.List.{List, [], _∷_}
-use Prim.Native.Nat.{ℕ, zero, suc, _+_, _<_}
+use Prim.Native.Nat.{ℕ, zero, suc, _+_, _-_, _<_, min}
 use native.Mathlib.Nat.{not-suc-le-zero, le-of-suc-le-suc}
 use native.Mathlib.Omega.{arith}
-use lib.ListN.{length, getD}
+use lib.ListN.{length, getD, length-append, length-take}
 use Rattle.names.specs.Order.{compared, isSame}
 use Rattle.names.specs.Bits.{splitBit}
 use Rattle.names.specs.Directory.{piece, rising}
 use Rattle.names.specs.Keys.{find, wordIn, wordOf}
-use Rattle.names.specs.declared.bits.Bit.the-variants.{Word}
+use Rattle.names.specs.declared.bits.Bit.{Bit}
+use Rattle.names.specs.declared.bits.Bit.the-variants.{Plain, Word}
 use Rattle.names.specs.declared.keys.Found.the-variants.{At, Nowhere}
+use Rattle.names.proofs.BitLaws.{word-split}
 use Rattle.names.proofs.OrderLaws.{compared-refl, same-equal, is-same}
 use Rattle.names.proofs.RankLaws.{rising-above, rising-rest}
 
@@ -79,3 +81,24 @@ find-at ns tag e h = let z : 0 + tag ≡ tag = omega arith in found-at ns 0 tag 
 -- the word of a bit is the tag that has the name of the word
 pub word-at : (ns : List (List ℕ)) (tag w k : ℕ) → rising ns ≡ true → splitBit (getD ns tag []) ≡ Word w → k < length ns → getD ns k [] ≡ piece 0 w (getD ns tag []) → wordOf ns tag ≡ At k
 word-at ns tag w k e b h n = ap (wordIn ns (getD ns tag [])) b ∙ ap (λ (x : List ℕ). find x 0 ns) (sym n) ∙ find-at ns k e h
+
+-- no name is its own word: a word is shorter than its bit
+pub word-other : (ns : List (List ℕ)) (tag k : ℕ) → wordOf ns tag ≡ At k → k ≡ tag → ⊥
+word-other ns tag k e same = go (splitBit (getD ns tag [])) refl e
+  where
+    go : (b : Bit) → splitBit (getD ns tag []) ≡ b → wordIn ns (getD ns tag []) b ≡ At k → ⊥
+    go Plain f g = let z : true ≡ false = cc in true≢false z
+    go (Word w) f g =
+        let s = word-split (getD ns tag []) w f in
+        let long : length (getD ns tag []) ≡ w + suc (length (s .digits)) = ap length (s .whole) ∙ length-append (s .word) (46 ∷ s .digits) ∙ ap (λ (n : ℕ). n + suc (length (s .digits))) (s .size) in
+        let own : length (getD ns tag []) ≡ min (w - 0) (length (getD ns tag [])) =
+        ap (λ (t : ℕ). length (getD ns t [])) (sym same) ∙ ap length (find-has (piece 0 w (getD ns tag [])) ns k g .1) ∙ length-take (w - 0) (getD ns tag []) in
+        omega arith
+
+-- the word of a bit is a tag of the directory
+pub word-inside : (ns : List (List ℕ)) (tag k : ℕ) → wordOf ns tag ≡ At k → k < length ns
+word-inside ns tag k e = go (splitBit (getD ns tag [])) e
+  where
+    go : (b : Bit) → wordIn ns (getD ns tag []) b ≡ At k → k < length ns
+    go Plain g = let z : true ≡ false = cc in absurd (true≢false z)
+    go (Word w) g = find-has (piece 0 w (getD ns tag [])) ns k g .0
