@@ -22,7 +22,10 @@ use Rattle.table.specs.Table.{tableIn}
 use Rattle.table.specs.declared.tag.Tag.{Tag}
 use Rattle.rounds.specs.Room.{fitted}
 use Rattle.rounds.specs.Added.{byRank}
-use Rattle.rounds.proofs.OnceLaws.{count-take}
+use Rattle.rounds.specs.Round.{Polling, Rooms, round}
+use Rattle.rounds.specs.declared.tick.Options.{Options}
+use Rattle.rounds.proofs.OnceLaws.{count-take, round-once}
+use Rattle.tiers.specs.Listed.{Listed}
 use Rattle.readings.specs.Apply.{tagApplied, isSent, appliedAt, sentAt}
 use Rattle.readings.specs.Results.{Applying, resultCount, resultIn, applyNext, applyFrom, applyAll, inTagOrder, AppliedAll}
 use Rattle.readings.specs.Order.{placeIn, ownResult, applyTurn, applyTurns, applyInOrder}
@@ -400,3 +403,12 @@ module _ (start : Float) (t : ℤ) (polled : Bool) where
       (below-take 65536 m (listIn tags) (list-below tags))
       (omega (arith, length-take m (listIn tags))) in
       (a .tabled ∙ same .0, a .changed ∙ ap (fitted (room changes)) (same .1))
+
+  -- Rules 6 and 7: the readings of a round's list are applied in tag order.
+  pub round-in-order : (table sent changes tags results table' changes' : List ℕ) → AppliedAll table sent changes tags results start t polled table' changes'
+      → (less : ℕ → ℕ → Bool) (rooms : Rooms) (o : Options) (P : Polling) (clock : Float) → Listed (P .table) → listIn tags ≡ round less rooms o P clock .list
+      → length (listIn tags) ≤ room sent
+      → (tableIn table' ≡ applyInOrder results start t polled (listIn tags) (tableIn table) .tags)
+      × (listIn changes' ≡ fitted (room changes) (applyInOrder results start t polled (listIn tags) (tableIn table) .sent))
+  round-in-order table sent changes tags results table' changes' a less rooms o P clock l e fits =
+      applied-in-order table sent changes tags results table' changes' a (λ k. rw e (round-once less rooms o P clock l k)) fits
