@@ -126,25 +126,28 @@ module _ (T : Table) (l : Listed T) (p : ℕ → Bool) (n : ℕ) (in-tier : (k :
 pub order-once : (T : Table) → Listed T → (k : ℕ) → count k (T .order) ≤ 1
 order-once T l k = omega (arith, l .once k, few-in (tagAt T k .tier))
 
--- ---- the last reading times keep the tiers
+-- ---- the last reading times
 
-marked-long : (tags : List Tag) (clock : Float) (ks : List ℕ) → length (marked tags clock ks) ≡ length tags
+pub marked-long : (tags : List Tag) (clock : Float) (ks : List ℕ) → length (marked tags clock ks) ≡ length tags
 unfolding marked
 marked-long tags clock [] = refl
 marked-long tags clock (k ∷ ks) = marked-long (set tags k (withLast (getD tags k freshTag) clock)) clock ks ∙ length-set tags k (withLast (getD tags k freshTag) clock)
 
-set-tier : (tags : List Tag) (k : ℕ) (x : Tag) → x .tier ≡ getD tags k freshTag .tier → (j : ℕ) → getD (set tags k x) j freshTag .tier ≡ getD tags j freshTag .tier
-set-tier [] k x e j = refl
-set-tier (y ∷ l) zero x e zero = e
-set-tier (y ∷ l) zero x e (suc j) = refl
-set-tier (y ∷ l) (suc k) x e zero = refl
-set-tier (y ∷ l) (suc k) x e (suc j) = set-tier l k x e j
+-- a part of a tag that a reading time leaves alone
+module _ {A : Type 0} (part : Tag → A) where
+  set-part : (tags : List Tag) (k : ℕ) (x : Tag) → part x ≡ part (getD tags k freshTag) → (j : ℕ) → part (getD (set tags k x) j freshTag) ≡ part (getD tags j freshTag)
+  set-part [] k x e j = refl
+  set-part (y ∷ l) zero x e zero = e
+  set-part (y ∷ l) zero x e (suc j) = refl
+  set-part (y ∷ l) (suc k) x e zero = refl
+  set-part (y ∷ l) (suc k) x e (suc j) = set-part l k x e j
 
-marked-tier : (tags : List Tag) (clock : Float) (ks : List ℕ) (j : ℕ) → getD (marked tags clock ks) j freshTag .tier ≡ getD tags j freshTag .tier
-unfolding marked
-marked-tier tags clock [] j = refl
-marked-tier tags clock (k ∷ ks) j =
-    marked-tier (set tags k (withLast (getD tags k freshTag) clock)) clock ks j ∙ set-tier tags k (withLast (getD tags k freshTag) clock) refl j
+  pub marked-part : (clock : Float) → ((x : Tag) → part (withLast x clock) ≡ part x) → (tags : List Tag) (ks : List ℕ) (j : ℕ)
+      → part (getD (marked tags clock ks) j freshTag) ≡ part (getD tags j freshTag)
+  unfolding marked
+  marked-part clock h tags [] j = refl
+  marked-part clock h tags (k ∷ ks) j =
+      marked-part clock h (set tags k (withLast (getD tags k freshTag) clock)) ks j ∙ set-part tags k (withLast (getD tags k freshTag) clock) (h (getD tags k freshTag)) j
 
 -- ---- the lists of a round, over the table T that its graces leave
 
@@ -189,7 +192,7 @@ module _ (less : ℕ → ℕ → Bool) (rooms : Rooms) (T : Table) (l : Listed T
         arith,
         count-sort less k (fitted (rooms .sorted) (keep (isTier2 tags) (T .order))),
         count-take k (rooms .sorted) (keep (isTier2 tags) (T .order)),
-        tier-once T l (isTier2 tags) 2 (λ j e. sym (marked-tier (T .tags) clock due j) ∙ eqb-true (getD tags j freshTag .tier) 2 e) k,
+        tier-once T l (isTier2 tags) 2 (λ j e. sym (marked-part (λ (x : Tag). x .tier) clock (λ x. refl) (T .tags) due j) ∙ eqb-true (getD tags j freshTag .tier) 2 e) k,
       )
 
   taken-few : (k : ℕ) → count k taken ≤ count k tier2
