@@ -77,8 +77,8 @@ applyNext n S k r start t polled = record {
   sent = cond (sentAt (S .tags) k r t polled) (pushed n (S .sent) (k % 65536)) (S .sent);
 }
 
--- Rule 7: the readings of the tags of a list, the first of which is result i, in the order of the list. Where the list names no tag twice this comes, with
--- `inTagOrder`, to the same as rule 7's tag order, `applyInOrder` of `Order`: the law `tag-order` of `OrderLaws`.
+-- Rule 7: the readings of the tags of a list, the first of which is result i, in the order of the list. For a list that names no tag twice, as those of a round
+-- and of a read-back are, this with `inTagOrder` is rule 7 tag by tag, `applyInOrder` of `Order`: proved in `OrderLaws` (`tag-order`, `round-in-order`).
 unfoldable pub applyFrom : ℕ → List ℕ → Float → ℤ → Bool → ℕ → List ℕ → Applying → Applying
 applyFrom n results start t polled i [] S = S
 applyFrom n results start t polled i (k ∷ ks) S = applyFrom n results start t polled (suc i) ks (applyNext n S k (resultIn results i) start t polled)
