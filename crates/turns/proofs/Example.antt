@@ -1,0 +1,118 @@
+-- A list of calls with a full turn in it, computed: inside the turn there are two looks, a write, a refused tier call, a lost connection and a new connect.
+use mathlib.Core.Path.{_≡_, refl}
+use mathlib.Core.Bool.{Bool, true, false}
+use mathlib.Core.List.{List, [], _∷_, map}
+use Prim.Native.Nat.{ℕ}
+use lib.Ieee as ieee-lib
+use lib.IntN.{pos}
+use lib.ListN.{replicate}
+use Rattle.ieee.specs.Round.{float}
+use Rattle.capi.specs.Creation.{Setup, creationCheck, freshWorker}
+use Rattle.histories.specs.Events.{BoundaryRound, boundaryRounds}
+use Rattle.histories.specs.Histories.{atEach, answers, trace}
+use Rattle.turns.specs.Calls.{Call, tier, steps, write, lookState, lookPanel, Answer, numberIs, told, stateIs, statsAre, countsAre, listIs, tagIs, answer, after}
+use Rattle.turns.specs.Demand.{roundIn, event}
+use Rattle.lists.specs.Keep as lists-Keep
+use Rattle.lists.specs.Slices as lists-Slices
+use Rattle.lists.specs.Sort as lists-Sort
+use Rattle.histories.specs.Events as histories-Events
+use Rattle.histories.specs.Histories as histories-Histories
+use Rattle.histories.specs.Respects as histories-Respects
+use Rattle.ieee.specs.Band as ieee-Band
+use Rattle.ieee.specs.Round as ieee-Round
+use Rattle.ieee.specs.Times as ieee-Times
+use Rattle.names.specs.Order as names-Order
+use Rattle.names.specs.Bits as names-Bits
+use Rattle.names.specs.Directory as names-Directory
+use Rattle.names.specs.Keys as names-Keys
+use Rattle.words.specs.Entry as words-Entry
+use Rattle.memory.specs.Blocks as memory-Blocks
+use Rattle.memory.specs.Cells as memory-Cells
+use Rattle.memory.specs.Halves as memory-Halves
+use Rattle.memory.specs.Lists as memory-Lists
+use Rattle.ranks.specs.Ranks as ranks-Ranks
+use Rattle.table.specs.Row as table-Row
+use Rattle.table.specs.Table as table-Table
+use Rattle.tiers.specs.Tiers as tiers-Tiers
+use Rattle.groups.specs.Groups as groups-Groups
+use Rattle.rounds.specs.Options as rounds-Options
+use Rattle.rounds.specs.Tick as rounds-Tick
+use Rattle.rounds.specs.Graces as rounds-Graces
+use Rattle.rounds.specs.Due as rounds-Due
+use Rattle.rounds.specs.Slice as rounds-Slice
+use Rattle.rounds.specs.Round as rounds-Round
+use Rattle.settings.specs.Records as settings-Records
+use Rattle.settings.specs.Settings as settings-Settings
+use Rattle.settings.specs.Configured as settings-Configured
+use Rattle.versions.specs.Versions as versions-Versions
+use Rattle.engine.specs.Progress as engine-Progress
+use Rattle.engine.specs.Stats as engine-Stats
+use Rattle.engine.specs.Engine as engine-Engine
+use Rattle.panel.specs.Panel as panel-Panel
+use Rattle.readings.specs.Apply as readings-Apply
+use Rattle.readings.specs.Stale as readings-Stale
+use Rattle.readings.specs.Results as readings-Results
+use Rattle.lent.specs.Lent as lent-Lent
+use Rattle.writes.specs.Queue as writes-Queue
+use Rattle.descriptions.specs.Descriptions as descriptions-Descriptions
+use Rattle.board.specs.Regions as board-Regions
+use Rattle.board.specs.Board as board-Board
+use Rattle.board.specs.Creation as board-Creation
+use Rattle.worker.specs.Losing as worker-Losing
+use Rattle.worker.specs.Polling as worker-Polling
+use Rattle.worker.specs.Answers as worker-Answers
+use Rattle.capi.specs.Memory as capi-Memory
+use Rattle.capi.specs.Calls as capi-Calls
+use Rattle.capi.specs.Creation as capi-Creation
+
+abbrev setup : Setup
+setup = record {
+  names = 65 ∷ 66 ∷ 67 ∷ [];
+  ends = 1 ∷ 2 ∷ 3 ∷ [];
+  options = record { cycle = float 1; period = float 2; grace = float 0 };
+  settings = replicate 96 0;
+  groups = [];
+}
+
+-- a step at the clock reading n with an answer of this kind
+abbrev stepAt : ℕ → ℕ → Call
+stepAt n kind = steps (float n) (pos 0) kind 7 0 (replicate 96 0) (replicate 6720 0)
+
+-- three tags in tier 2, a connect, and a round; then looks, a write, a refused tier call, a lost connection, a new connect, and a round
+abbrev someCalls : List Call
+someCalls =
+    tier (float 0) 0 2 ∷ tier (float 0) 1 2 ∷ tier (float 0) 2 2
+    ∷ stepAt 0 0 ∷ stepAt 0 1 ∷ stepAt 0 4 ∷ stepAt 0 12
+    ∷ lookState ∷ lookPanel [] ∷ write 0 0 0 ∷ tier (float 0) 9 2
+    ∷ stepAt 0 6 ∷ stepAt 0 12 ∷ stepAt 0 12 ∷ stepAt 1 11 ∷ stepAt 1 12
+    ∷ stepAt 1 1 ∷ stepAt 1 4 ∷ stepAt 1 12 ∷ []
+
+-- the number of an answer, or the kind of what a step tells
+abbrev numberOf : Answer → ℕ
+numberOf (numberIs n) = n
+numberOf (told r left) = r .kind
+numberOf (stateIs x) = x .state
+numberOf (statsAre x) = x .code
+numberOf (countsAre x) = x .code
+numberOf (listIs x left) = x .code
+numberOf (tagIs x) = x .code
+
+abbrev numbers : List Answer → List ℕ
+numbers l = map numberOf l
+
+abbrev since : List BoundaryRound → List Bool
+since rs = map (λ (r : BoundaryRound). r .retieredSince) rs
+
+abbrev taken : List BoundaryRound → List (List ℕ)
+taken rs = map (λ (r : BoundaryRound). r .names) rs
+
+abbrev rounds : List BoundaryRound
+rounds = boundaryRounds false (trace after event someCalls (freshWorker setup))
+
+-- creation accepts it; each call answers as told above; the two boundary rounds are a turn, and nothing disturbs the second
+a-turn : (creationCheck setup ≡ 0)
+    × (numbers (answers after answer someCalls (freshWorker setup)) ≡ 0 ∷ 0 ∷ 0 ∷ 1 ∷ 2 ∷ 9 ∷ 3 ∷ 1 ∷ 43 ∷ 0 ∷ 23 ∷ 13 ∷ 9 ∷ 7 ∷ 9 ∷ 1 ∷ 2 ∷ 9 ∷ 3 ∷ [])
+    × (taken rounds ≡ (0 ∷ 1 ∷ []) ∷ (2 ∷ []) ∷ [])
+    × (since rounds ≡ true ∷ false ∷ [])
+unfolding lists-Keep.keep lists-Keep.upTo lists-Slices.slice lists-Slices.next lists-Slices.slices lists-Sort.insert lists-Sort.sortOnto histories-Events.boundaryRounds histories-Events.allNames histories-Events.Each histories-Events.RestUndisturbed histories-Events.EveryTurnOfRounds histories-Histories.Ready histories-Histories.Happened histories-Histories.atEach histories-Respects.Respects ieee-Band.magnitude ieee-Band.within ieee-Round.roundTiesEven ieee-Round.slicesOf ieee-Round.round1Of ieee-Times.clockOk names-Order.compared names-Order.lowerOf names-Bits.lastDot names-Bits.allDigits names-Bits.splitBit names-Directory.cut names-Directory.goodEnds names-Directory.goodBytes names-Directory.goodNames names-Directory.risingFrom names-Directory.rising names-Directory.directoryCheck names-Keys.below names-Keys.find words-Entry.entryFrom words-Entry.entryWordsOf memory-Blocks.blocks memory-Cells.cellsIn memory-Cells.rowsIn memory-Halves.halvesIn memory-Lists.listIn ranks-Ranks.over table-Row.tagFrom table-Table.tableIn tiers-Tiers.timingSet tiers-Tiers.tagSet tiers-Tiers.orderSet tiers-Tiers.graceEnded tiers-Tiers.putTable tiers-Tiers.enterGrace tiers-Tiers.setTier groups-Groups.groupFrom groups-Groups.groupsIn groups-Groups.groupRead groups-Groups.noted rounds-Options.optionsCheck rounds-Tick.leastRate rounds-Graces.runOut rounds-Due.isDue rounds-Due.marked rounds-Due.recordedDue rounds-Slice.placeOf rounds-Round.round settings-Records.recordsOf settings-Records.every settings-Settings.settingFrom settings-Settings.settingIn settings-Settings.settingOk settings-Settings.settingsOk settings-Configured.configuredFrom settings-Configured.givenGroups settings-Configured.groupOk settings-Configured.configuredOk settings-Configured.groupPlaces settings-Configured.configuredIn versions-Versions.tagTaken versions-Versions.eachAt versions-Versions.versionTable engine-Progress.phaseFrom engine-Stats.tailStats engine-Engine.engineFrom engine-Engine.engineIn engine-Engine.stored panel-Panel.panelOf panel-Panel.written panel-Panel.writtenLength panel-Panel.tagsOf panel-Panel.tiersOf panel-Panel.entryCheck panel-Panel.panelCheck panel-Panel.loaded readings-Apply.timingRead readings-Apply.isEntrySent readings-Apply.tagRead readings-Apply.appliedAt readings-Apply.sentAt readings-Stale.tagStale readings-Results.resultIn readings-Results.firstOk readings-Results.applyNext readings-Results.applyFrom lent-Lent.cellBytes lent-Lent.overBytes lent-Lent.wroteAll lent-Lent.cellPut lent-Lent.recordPut lent-Lent.records writes-Queue.writeFrom writes-Queue.placesIn writes-Queue.queueIn descriptions-Descriptions.knownFrom board-Regions.regionsIn board-Board.boardOf board-Board.boardIn board-Board.appliedTo board-Board.staledIn board-Creation.freshBoard worker-Losing.disconnected worker-Losing.staling worker-Losing.down worker-Losing.top worker-Polling.idle worker-Polling.tail worker-Polling.resume worker-Polling.writingOf worker-Polling.checking worker-Polling.reading worker-Polling.polled worker-Polling.poll worker-Polling.finished worker-Answers.awaited worker-Answers.answers worker-Answers.contents worker-Answers.stepCheck worker-Answers.connected worker-Answers.reconnecting worker-Answers.opened worker-Answers.openVersion worker-Answers.roundVersion worker-Answers.results worker-Answers.descriptions worker-Answers.written worker-Answers.readBack worker-Answers.backApplied worker-Answers.waited worker-Answers.backedOff worker-Answers.taken worker-Answers.handled worker-Answers.stepped worker-Answers.step capi-Memory.workerIn capi-Calls.clockCheck capi-Calls.tierCheck capi-Calls.loadCheck capi-Calls.writeCheck capi-Creation.creationCheck ieee-lib.eq ieee-lib.le ieee-lib.lt ieee-lib.add ieee-lib.sub ieee-lib.mul ieee-lib.div ieee-lib.neg ieee-lib.ofInt ieee-lib.round ieee-lib.toUnsigned ieee-lib.ofBits ieee-lib.toBits after event answer roundIn
+a-turn = (refl, refl, refl, refl)

@@ -1,0 +1,43 @@
+-- A round that goes by the sort keys in memory is the round by lower-cased name, where the tags in tiers and graces are tags of the directory.
+use mathlib.Core.Path.{_≡_}
+use mathlib.Core.List.{List}
+use Prim.Native.Nat.{ℕ, _≤_}
+use lib.Ieee.{Float, binary64, div}
+use lib.ListN.{length, take}
+use Rattle.ieee.specs.Round.{float}
+use Rattle.lists.specs.Keep.{keep}
+use Rattle.lists.specs.Sort.{byKeys}
+use Rattle.lists.proofs.KeepLaws.{below-keep, below-take}
+use Rattle.names.specs.Keys.{byName}
+use Rattle.ranks.specs.Ranks.{over, keysOf}
+use Rattle.ranks.proofs.Laws.{sorted-by-name}
+use Rattle.table.specs.declared.tag.Tag.{Tag}
+use Rattle.tiers.specs.Tiers.{Table}
+use Rattle.rounds.specs.Tick.{tickOf, boundaryAt}
+use Rattle.rounds.specs.Graces.{expiredAt, runOut}
+use Rattle.rounds.specs.Due.{dueTags, marked}
+use Rattle.rounds.specs.Slice.{isTier2, tier2Tags}
+use Rattle.rounds.specs.Round.{Polling, Rooms, round}
+use Rattle.rounds.specs.declared.tick.Options.{Options}
+use Rattle.turns.proofs.InsideLaws.{Inside, inside-run-out, expired-inside}
+
+module _ (old : List ℕ) (ns : List (List ℕ)) (few : length ns ≤ length old) (small : length ns ≤ 65536) where
+  -- the tier-2 tags by the keys in memory are those by lower-cased name
+  pub tier2-by-name : (T : Table) → Inside (length ns) T → (room : ℕ) (tags : List Tag)
+      → tier2Tags (byKeys (over old (keysOf ns))) room tags (T .order) ≡ tier2Tags (byName ns) room tags (T .order)
+  tier2-by-name T i room tags =
+      sorted-by-name old ns few small (take room (keep (isTier2 tags) (T .order)))
+      (below-take (length ns) room (keep (isTier2 tags) (T .order)) (below-keep (length ns) (isTier2 tags) (T .order) (i .order-inside)))
+
+  -- so is the whole round
+  pub round-by-name : (rooms : Rooms) (o : Options) (P : Polling) (clock : Float) → Inside (length ns) (P .table)
+      → round (byKeys (over old (keysOf ns))) rooms o P clock ≡ round (byName ns) rooms o P clock
+  unfolding round
+  round-by-name rooms o P clock i =
+      let T = P .table in
+      let half = div binary64 (tickOf (T .tags) (T .order) (o .cycle)) (float 2) in
+      let boundary = boundaryAt (P .cycle) clock half (o .cycle) in
+      let ks = expiredAt boundary (rooms .wanted) (T .tags) (T .graces) clock in
+      let T1 = runOut T ks in
+      let tags = marked (T1 .tags) clock (dueTags (rooms .wanted) (T1 .tags) (T1 .order) clock half (o .cycle)) in
+      rw (tier2-by-name T1 (inside-run-out (length ns) T ks i (expired-inside (length ns) T i boundary (rooms .wanted) clock)) (rooms .sorted) tags)

@@ -1,0 +1,85 @@
+-- The slice of each boundary round is one of the tier-2 tags by lower-cased name, ties in table order.
+use mathlib.Core.Path.{_≡_, ap, sym, _∙_, subst}
+use mathlib.Core.Bool.{true}
+use mathlib.Core.List.{List}
+use mathlib.Core.Option.{Option}
+use Prim.Native.Nat.{ℕ, _≤_}
+use native.Mathlib.Omega.{arith}
+use lib.ListN.{length, length-replicate}
+use Rattle.lists.specs.Slices.{slice}
+use Rattle.lists.specs.Sort.{sort, byKeys}
+use Rattle.ieee.specs.Round.{slicesOf}
+use Rattle.names.specs.Directory.{namesOf}
+use Rattle.names.specs.Keys.{byName}
+use Rattle.rounds.specs.Round.{Round}
+use Rattle.rounds.specs.Slice.{tier2Tags}
+use Rattle.rounds.specs.declared.tick.Options.{Options}
+use Rattle.board.specs.Creation.{noNumbers}
+use Rattle.worker.specs.Worker.{Worker, At, Told, at}
+use Rattle.worker.specs.Polling.{roundAt}
+use Rattle.worker.specs.Answers.{Answer, clocked, stepped, step}
+use Rattle.capi.specs.Calls.{answerOf}
+use Rattle.capi.specs.Creation.{Setup}
+use Rattle.turns.specs.Calls.{Call, tier, load, steps, write, stop, lookState, lookStats, lookCounts, lookGroups, lookTable, lookPanel, lookTag}
+use Rattle.turns.specs.Demand.{roundIn, tier2ByName, TookByName, moment, ByName}
+use Rattle.turns.proofs.TierLaws.{none-cut}
+use Rattle.turns.proofs.RoundLaws.{tier2-left, at-boundary}
+use Rattle.turns.proofs.NameLaws.{tier2-by-name}
+use Rattle.turns.proofs.StepLaws.{Did, nothing, oneRound, did-stepped, step-cases}
+use Rattle.turns.proofs.KeepLaws.{index-kept}
+use Rattle.turns.proofs.SoundLaws.{Sound, indexOf, sound-kept, less, rooms, P, round-listed, round-inside, round-room, sound-clocked}
+
+module _ (o : Options) (ns : List (List ℕ)) (few : length ns ≤ 120) where
+  abbrev S : ℕ
+  S = slicesOf (o .period) (o .cycle)
+
+  -- the tier-2 tags that a round goes by
+  tier2-named : (M : Worker) (at : At) (s : Sound o ns M) → roundAt M at .tier2 ≡ tier2ByName ns (roundAt M at .after .table)
+  tier2-named M at s =
+      let T = roundAt M at .after .table in
+      let room = M .board .askedRoom in
+      let long : length noNumbers ≡ 128 = length-replicate {A = ℕ} 128 0 in
+      sym (tier2-left (less o ns M at s) (rooms o ns M at s) (M .head .options) (P o ns M at s) (at .clock))
+      ∙ ap (λ (ks : List ℕ). tier2Tags (byKeys ks) room (T .tags) (T .order)) (s .keys-same)
+      ∙ tier2-by-name noNumbers ns (omega (arith, long)) (omega arith) T (rw (← s .count-same) (round-inside o ns M at s)) room (T .tags)
+      ∙ ap (sort (byName ns)) (none-cut T (round-listed o ns M at s) room (round-room o ns M at s))
+
+  -- a round, if there was one
+  did-by-name : (N : Worker) (at : At) (T : Told) → Sound o ns N → Did N at T → TookByName ns S (T .round) (indexOf N)
+  unfolding TookByName
+  did-by-name N at T s (nothing x) = subst (λ (r : Option Round). TookByName ns S r (indexOf N)) (sym (x .no-round)) tt
+  did-by-name N at T s (oneRound M k e l) = subst (λ (r : Option Round). TookByName ns S r (indexOf N)) (sym e) (λ b. slice-named b)
+    where
+      sm : Sound o ns M
+      sm = sound-kept N M k o ns s
+
+      slice-named : roundAt M at .boundary ≡ true → roundAt M at .slice ≡ slice S (tier2ByName ns (roundAt M at .after .table)) (indexOf N)
+      slice-named b =
+          at-boundary (less o ns M at sm) (rooms o ns M at sm) (M .head .options) (P o ns M at sm) (at .clock) b .0
+          ∙ ap (λ (x : Options). slice (slicesOf (x .period) (x .cycle)) (roundAt M at .tier2) (indexOf M)) (sm .options-same)
+          ∙ ap (λ (l : List ℕ). slice S l (indexOf M)) (tier2-named M at sm)
+          ∙ ap (slice S (tier2ByName ns (roundAt M at .after .table))) (index-kept N M k)
+
+  -- a step
+  took-by-name : (W : Worker) (at : At) (a : Answer) (out : ℕ) → Sound o ns W → TookByName ns S (step W at a out .round) (indexOf W)
+  unfolding TookByName
+  took-by-name W at a out s =
+      step-cases W at a out (λ (T : Told). TookByName ns S (T .round) (indexOf W)) (λ n. tt)
+      (λ c. did-by-name (clocked W at) at (stepped W at a) (sound-clocked o ns W at a c s) (did-stepped at W a (c .awaits) (c .holds)))
+
+-- every call
+pub by-name : (s : Setup) → length (namesOf (s .names) (s .ends)) ≤ 120 → (c : Call) (W : Worker) → Sound (s .options) (namesOf (s .names) (s .ends)) W → ByName s (moment c W)
+unfolding roundIn TookByName
+by-name s few (tier clock tag to) W v = tt
+by-name s few (load clock list) W v = tt
+by-name s few (steps clock wall kind number message list out) W v =
+    took-by-name (s .options) (namesOf (s .names) (s .ends)) few W (at clock wall) (answerOf kind number message list) (length out) v
+by-name s few (write tag kind word) W v = tt
+by-name s few stop W v = tt
+by-name s few lookState W v = tt
+by-name s few lookStats W v = tt
+by-name s few lookCounts W v = tt
+by-name s few (lookGroups out) W v = tt
+by-name s few (lookTable out) W v = tt
+by-name s few (lookPanel out) W v = tt
+by-name s few (lookTag tag) W v = tt

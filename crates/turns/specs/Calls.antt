@@ -1,0 +1,101 @@
+-- The calls of an engine, and what rules 1 to 11 and the checks make of each: what it answers, what it leaves in the lists lent to it, and the engine it leaves.
+use mathlib.Core.Bool.{cond}
+use mathlib.Core.List.{List}
+use Prim.Native.Nat.{ℕ, _/_}
+use lib.Dec.{eqb, ltb}
+use lib.Ieee.{Float}
+use lib.IntN.{ℤ}
+use lib.ListN.{length}
+use Rattle.words.specs.Value.{valueFrom}
+use Rattle.tiers.specs.Tiers.{tagAt}
+use Rattle.lent.specs.Lent.{records, wroteAll}
+use Rattle.board.specs.Board.{rowCells}
+use Rattle.worker.specs.Worker.{Worker, Told, at}
+use Rattle.worker.specs.Answers.{step}
+use Rattle.worker.specs.declared.reply.Reply.{Reply}
+use Rattle.capi.specs.Calls.{noTag, tierCheck, tiered, loadCheck, loaded, writeCheck, wrote, halted, answerOf}
+use Rattle.capi.specs.Looks.{stateOf, statsOf, countsOf, listed, leftIn, groupCells, groupCount, tableCount, panelBytes, panelCount, panelLeft, tagOf, noLook}
+use Rattle.capi.specs.declared.looks.StateLook.{StateLook}
+use Rattle.capi.specs.declared.looks.StatsLook.{StatsLook}
+use Rattle.capi.specs.declared.looks.CountsLook.{CountsLook}
+use Rattle.capi.specs.declared.looks.ListLook.{ListLook}
+use Rattle.capi.specs.declared.looks.TagLook.{TagLook}
+
+-- A call of an entry point, with its arguments but the engine: numbers, and the bytes of each list that it is lent. `out` is a list that it may write.
+pub data Call : Type 0 where
+  tier : (clock : Float) (tag to : ℕ) → Call
+  load : (clock : Float) (list : List ℕ) → Call
+  steps : (clock : Float) (wall : ℤ) (kind number message : ℕ) (list out : List ℕ) → Call
+  write : (tag kind word : ℕ) → Call
+  stop : Call
+  lookState : Call
+  lookStats : Call
+  lookCounts : Call
+  lookGroups : (out : List ℕ) → Call
+  lookTable : (out : List ℕ) → Call
+  lookPanel : (out : List ℕ) → Call
+  lookTag : (tag : ℕ) → Call
+
+-- What a call answers: 0 or the number of a refusal; the reply of a step; what a look gives. `left` is what it leaves in the list that it may write.
+pub data Answer : Type 0 where
+  numberIs : ℕ → Answer
+  told : (reply : Reply) (left : List ℕ) → Answer
+  stateIs : StateLook → Answer
+  statsAre : StatsLook → Answer
+  countsAre : CountsLook → Answer
+  listIs : (look : ListLook) (left : List ℕ) → Answer
+  tagIs : TagLook → Answer
+
+-- Rule 9: what a step comes to
+abbrev pub toldBy : Float → ℤ → ℕ → ℕ → ℕ → List ℕ → List ℕ → Worker → Told
+toldBy clock wall kind number message list out W = step W (at clock wall) (answerOf kind number message list) (length out)
+
+-- Check 43 of a look: fewer places than asked for
+abbrev pub placesCheck : ℕ → ℕ → ℕ
+placesCheck places asked = cond (ltb places asked) 43 0
+
+-- lists: how many, and what is left in the list; one that has too few places is left as it was
+abbrev pub groupsFound : Worker → List ℕ → ℕ → Answer
+groupsFound W out n = listIs (listed n (groupCount W out)) (leftIn n out (groupCells W))
+
+abbrev pub tableFound : Worker → List ℕ → ℕ → Answer
+tableFound W out n = listIs (listed n (tableCount W out)) (leftIn n out (records (rowCells (W .board)) (W .board .table .order)))
+
+abbrev pub panelFound : Worker → List ℕ → ℕ → Answer
+panelFound W out n = listIs (listed n (panelCount W out)) (panelLeft n out (panelBytes W))
+
+-- What a call answers.
+unfoldable pub answer : Call → Worker → Answer
+answer (tier clock tag to) W = numberIs (tierCheck W clock tag to)
+answer (load clock list) W = numberIs (loadCheck W clock list)
+answer (steps clock wall kind number message list out) W =
+    let T = toldBy clock wall kind number message list out W in
+    told (T .reply) (wroteAll out (T .cells))
+answer (write tag kind word) W = numberIs (writeCheck W tag (valueFrom kind word))
+answer stop W = numberIs 0
+answer lookState W = stateIs (stateOf (W .head .link))
+answer lookStats W = statsAre (statsOf (W .head .stats))
+answer lookCounts W = countsAre (countsOf (W .board))
+answer (lookGroups out) W = groupsFound W out (placesCheck (length out / 40) 16)
+answer (lookTable out) W = tableFound W out (placesCheck (length out / 16) (length (W .board .table .tags)))
+answer (lookPanel out) W = panelFound W out (placesCheck (length out) 241)
+answer (lookTag tag) W = tagIs (cond (noTag W tag) (noLook 23) (tagOf (tagAt (W .board .table) tag)))
+
+-- what a call leaves whose checks came to n; a refusal changes nothing
+abbrev pub accepted : ℕ → Worker → Worker → Worker
+accepted n done W = cond (eqb n 0) done W
+
+-- The engine that a call leaves. A look changes nothing.
+unfoldable pub after : Call → Worker → Worker
+after (tier clock tag to) W = accepted (tierCheck W clock tag to) (tiered W clock tag to) W
+after (load clock list) W = accepted (loadCheck W clock list) (loaded W clock list) W
+after (steps clock wall kind number message list out) W = toldBy clock wall kind number message list out W .left
+after (write tag kind word) W = accepted (writeCheck W tag (valueFrom kind word)) (wrote W tag (valueFrom kind word)) W
+after stop W = halted W
+after lookState W = W
+after lookStats W = W
+after lookCounts W = W
+after (lookGroups out) W = W
+after (lookTable out) W = W
+after (lookPanel out) W = W
+after (lookTag tag) W = W

@@ -1,0 +1,6 @@
+-- Demand 3. `Demand`: the claim about lists of calls. `Calls`: what the rules make of each call. `Contracts`: the contracts of the entry points, by call.
+-- `Once`: a step needs no second round.
+pub mod Calls
+pub mod Contracts
+pub mod Demand
+pub mod Once
