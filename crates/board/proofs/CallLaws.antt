@@ -4,15 +4,11 @@ use mathlib.Core.List.{List}
 use Prim.Native.Nat.{ℕ, _+_, _≤_}
 use native.Mathlib.Omega.{arith}
 use borrow.Rule.Slice.PartMut.{putMid, same-len-mid}
-use lib.ListN.{length, drop, length-drop}
-use lib.Seq.{length-take-le}
+use lib.ListN.{length}
 use Rattle.tiers.specs.Tiers.{Table, tabled}
 use Rattle.board.specs.Regions.{Regions, regionsIn, part, boardSize}
 use Rattle.board.specs.Board.{boardIn, boardOf, withTable}
-use Rattle.board.proofs.Laws.{putOrder, putGraces, putTable, put-order, put-graces, put-table}
-
-pub part-length : (a k : ℕ) (bs : List ℕ) → a + k ≤ length bs → length (part a k bs) ≡ k
-part-length a k bs h = length-take-le k (drop a bs) (omega (arith, length-drop a bs))
+use Rattle.board.proofs.Laws.{part-length, putOrder, putGraces, putTable, put-order, put-graces, put-table}
 
 -- o1 and g1 are what the call made of the copies o0 and g0; w0 is a copy of the words
 pub table-call : (f : Table → Table) (bs t o g o1 g1 o0 g0 w0 : List ℕ)

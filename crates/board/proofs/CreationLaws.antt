@@ -28,8 +28,7 @@ use Rattle.writes.specs.declared.queue.Write.{Write}
 use Rattle.board.specs.Regions.{Regions, regionsIn, part, boardSize}
 use Rattle.board.specs.Board.{Board, boardOf, boardIn}
 use Rattle.board.specs.Creation.{freshWords, freshBoard}
-use Rattle.board.proofs.Laws.{putKeys, putWords, putConfigured, putTable, put-keys, put-words, put-configured, put-table}
-use Rattle.board.proofs.TalkLaws.{part-wide}
+use Rattle.board.proofs.Laws.{part-length, putKeys, putWords, putConfigured, putTable, put-keys, put-words, put-configured, put-table}
 
 -- ---- a list of the same element over and over
 
@@ -194,16 +193,16 @@ module _ (bs k w g t : List ℕ) (zero : bs ≡ zeros boardSize)
   made-length = same-len-mid 7424 30720 (made bs k w g) t nt ∙ len3
 
   parts1 : regionsIn (keyed bs k) ≡ putKeys (regionsIn bs) k
-  parts1 = put-keys bs k len0 (nk ∙ part-wide 768 256 bs (omega (arith, len0)))
+  parts1 = put-keys bs k len0 (nk ∙ part-length 768 256 bs (omega (arith, len0)))
 
   parts2 : regionsIn (worded bs k w) ≡ putWords (putKeys (regionsIn bs) k) w
-  parts2 = put-words (keyed bs k) w len1 (nw ∙ part-wide 1024 256 (keyed bs k) (omega (arith, len1))) ∙ ap (λ (R : Regions). putWords R w) parts1
+  parts2 = put-words (keyed bs k) w len1 (nw ∙ part-length 1024 256 (keyed bs k) (omega (arith, len1))) ∙ ap (λ (R : Regions). putWords R w) parts1
 
   parts3 : regionsIn (made bs k w g) ≡ putConfigured (putWords (putKeys (regionsIn bs) k) w) g
-  parts3 = put-configured (worded bs k w) g len2 (ng ∙ part-wide 1792 512 (worded bs k w) (omega (arith, len2))) ∙ ap (λ (R : Regions). putConfigured R g) parts2
+  parts3 = put-configured (worded bs k w) g len2 (ng ∙ part-length 1792 512 (worded bs k w) (omega (arith, len2))) ∙ ap (λ (R : Regions). putConfigured R g) parts2
 
   parts4 : regionsIn (putMid 7424 30720 (made bs k w g) t) ≡ putTable (putConfigured (putWords (putKeys (regionsIn bs) k) w) g) t
-  parts4 = put-table (made bs k w g) t len3 (nt ∙ part-wide 7424 30720 (made bs k w g) (omega (arith, len3))) ∙ ap (λ (R : Regions). putTable R t) parts3
+  parts4 = put-table (made bs k w g) t len3 (nt ∙ part-length 7424 30720 (made bs k w g) (omega (arith, len3))) ∙ ap (λ (R : Regions). putTable R t) parts3
 
   numbers : (a : ℕ) → a + 256 ≤ boardSize → halvesIn (part a 256 bs) ≡ zeros 128
   numbers a h = ap halvesIn (at-zero a 256 h) ∙ halves-zero 256

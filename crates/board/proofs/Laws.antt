@@ -8,6 +8,9 @@ use lib.ListN.{length, take, drop, length-drop, take-append-drop}
 use lib.Seq.{drop-append-le, take-append-le, take-at, drop-at, drop-drop, take-all, length-take-le}
 use Rattle.board.specs.Regions.{Regions, regionsIn, part, boardSize}
 
+pub part-length : (a k : ℕ) (bs : List ℕ) → a + k ≤ length bs → length (part a k bs) ≡ k
+part-length a k bs h = length-take-le k (drop a bs) (omega (arith, length-drop a bs))
+
 module _ (a k : ℕ) (xs ys : List ℕ) (h : a + k ≤ length xs) (e : length ys ≡ k) where
   pub part-same : part a k (putMid a k xs ys) ≡ ys
   part-same = ap (λ (z : List ℕ). take k z) (drop-at (take a xs) (ys ++ postOf a k xs) a (length-take-le a xs (omega arith))) ∙ take-at ys (postOf a k xs) k e

@@ -5,8 +5,7 @@ use Prim.Native.Nat.{ℕ, _+_, _-_, _/_, _≤_, min}
 use native.Mathlib.Omega.{arith}
 use borrow.Rule.Slice.PartMut.{putMid, same-len-mid}
 use lib.Ieee.{Float}
-use lib.ListN.{length, length-drop}
-use lib.Seq.{length-take-le}
+use lib.ListN.{length}
 use Rattle.lists.specs.Sort.{byKeys}
 use Rattle.memory.specs.Halves.{halvesIn}
 use Rattle.memory.specs.Lists.{listIn, room}
@@ -21,11 +20,11 @@ use Rattle.rounds.specs.declared.tick.Cycle.{Cycle}
 use Rattle.rounds.specs.declared.round.CycleTags.{CycleTags}
 use Rattle.board.specs.Regions.{Regions, regionsIn, part, boardSize}
 use Rattle.board.specs.Board.{Board, Changing, Worked, boardIn, boardOf, withRecords, roundOf}
-use Rattle.board.proofs.Laws.{part-same, put-table, put-order, put-graces, put-asked, put-recorded, put-groups, putTable, putOrder, putGraces, putAsked, putRecorded, putGroups}
+use Rattle.board.proofs.Laws.{part-length, part-same, put-table, put-order, put-graces, put-asked, put-recorded, put-groups, putTable, putOrder, putGraces, putAsked, putRecorded, putGroups}
 
 -- a part has its width
 pub part-long : (a k : ℕ) (bs : List ℕ) → length bs ≡ boardSize → a + k ≤ boardSize → length (part a k bs) ≡ k
-part-long a k bs h g = length-take-le k _ (omega (arith, h, length-drop a bs))
+part-long a k bs h g = part-length a k bs (omega (arith, h, g))
 
 -- a part put keeps the board's length
 pub put-long : (a k : ℕ) (bs y : List ℕ) → length bs ≡ boardSize → a + k ≤ boardSize → length y ≡ k → length (putMid a k bs y) ≡ boardSize

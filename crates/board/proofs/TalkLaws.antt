@@ -5,8 +5,8 @@ use Prim.Native.Nat.{ℕ, _+_, _%_, _≤_, _<_}
 use native.Mathlib.Nat.{mod-eq-of-lt}
 use native.Mathlib.Omega.{arith}
 use borrow.Rule.Slice.PartMut.{putMid, same-len-mid}
-use lib.ListN.{length, set, take, drop, length-drop}
-use lib.Seq.{length-take-le, take-take}
+use lib.ListN.{length, set, take}
+use lib.Seq.{take-take}
 use Rattle.memory.specs.Halves.{halvesIn}
 use Rattle.memory.specs.Lists.{listIn, room}
 use Rattle.memory.proofs.ListLaws.{room-same, places, recount, list-short, list-places}
@@ -21,10 +21,8 @@ use Rattle.writes.specs.declared.queue.Write.{Write}
 use Rattle.writes.proofs.QueueLaws.{queue-room-same}
 use Rattle.board.specs.Regions.{Regions, regionsIn, part, boardSize}
 use Rattle.board.specs.Board.{Board, boardOf, boardIn, withQueue, withAsked, withBack, withRecords, queuedTags, keptBack, describing}
-use Rattle.board.proofs.Laws.{part-before, putBack, putAsked, putQueue, putTable, put-back, put-asked, put-queue, put-table}
+use Rattle.board.proofs.Laws.{part-length, part-before, putBack, putAsked, putQueue, putTable, put-back, put-asked, put-queue, put-table}
 
-pub part-wide : (a k : ℕ) (bs : List ℕ) → a + k ≤ length bs → length (part a k bs) ≡ k
-part-wide a k bs h = length-take-le k (drop a bs) (omega (arith, length-drop a bs))
 
 queue-of : (R : Regions) (y : List ℕ) (q : List Write) → queueRoom y ≡ queueRoom (R .queue) → queueIn y ≡ q → boardOf (putQueue R y) ≡ withQueue (boardOf R) q
 unfolding boardOf
@@ -45,19 +43,19 @@ records-of R y tags e = rw e refl
 module _ (bs y : List ℕ) (h : length bs ≡ boardSize) where
   pub queue-put : (q : List Write) → length y ≡ length (part 2304 1024 bs) → queueIn y ≡ q → boardIn (putMid 2304 1024 bs y) ≡ withQueue (boardIn bs) q
   unfolding boardIn regionsIn
-  queue-put q e i = ap boardOf (put-queue bs y h (e ∙ part-wide 2304 1024 bs (omega (arith, h)))) ∙ queue-of (regionsIn bs) y q (queue-room-same y (part 2304 1024 bs) e) i
+  queue-put q e i = ap boardOf (put-queue bs y h (e ∙ part-length 2304 1024 bs (omega (arith, h)))) ∙ queue-of (regionsIn bs) y q (queue-room-same y (part 2304 1024 bs) e) i
 
   pub asked-put : (l : List ℕ) → length y ≡ length (part 1280 256 bs) → listIn y ≡ l → boardIn (putMid 1280 256 bs y) ≡ withAsked (boardIn bs) l
   unfolding boardIn regionsIn
-  asked-put l e i = ap boardOf (put-asked bs y h (e ∙ part-wide 1280 256 bs (omega (arith, h)))) ∙ asked-of (regionsIn bs) y l (room-same y (part 1280 256 bs) e) i
+  asked-put l e i = ap boardOf (put-asked bs y h (e ∙ part-length 1280 256 bs (omega (arith, h)))) ∙ asked-of (regionsIn bs) y l (room-same y (part 1280 256 bs) e) i
 
   pub back-put : (l : List ℕ) → length y ≡ length (part 0 256 bs) → y ≡ l → boardIn (putMid 0 256 bs y) ≡ withBack (boardIn bs) l
   unfolding boardIn regionsIn
-  back-put l e i = ap boardOf (put-back bs y h (e ∙ part-wide 0 256 bs (omega (arith, h)))) ∙ back-of (regionsIn bs) y l i
+  back-put l e i = ap boardOf (put-back bs y h (e ∙ part-length 0 256 bs (omega (arith, h)))) ∙ back-of (regionsIn bs) y l i
 
   pub records-put : (tags : List Tag) → length y ≡ length (part 7424 30720 bs) → tableIn y ≡ tags → boardIn (putMid 7424 30720 bs y) ≡ withRecords (boardIn bs) tags
   unfolding boardIn regionsIn
-  records-put tags e i = ap boardOf (put-table bs y h (e ∙ part-wide 7424 30720 bs (omega (arith, h)))) ∙ records-of (regionsIn bs) y tags i
+  records-put tags e i = ap boardOf (put-table bs y h (e ∙ part-length 7424 30720 bs (omega (arith, h)))) ∙ records-of (regionsIn bs) y tags i
 
 -- ---- a list cut short
 
@@ -75,7 +73,7 @@ pub tags-queued : (bs list : List ℕ) → length bs ≡ boardSize → length li
     → fitted (room list) (writeTags (queueIn (part 2304 1024 bs))) ≡ queuedTags (boardIn bs)
 unfolding boardIn boardOf regionsIn
 tags-queued bs list h e =
-    ap (λ (n : ℕ). fitted n (writeTags (queueIn (part 2304 1024 bs)))) (room-same list (part 1280 256 bs) (e ∙ sym (part-wide 1280 256 bs (omega (arith, h)))))
+    ap (λ (n : ℕ). fitted n (writeTags (queueIn (part 2304 1024 bs)))) (room-same list (part 1280 256 bs) (e ∙ sym (part-length 1280 256 bs (omega (arith, h)))))
 
 -- ---- two parts replaced
 
@@ -85,7 +83,7 @@ pub back-kept : (bs y z results : List ℕ) → length bs ≡ boardSize
     → boardIn (putMid 0 256 (putMid 1280 256 bs y) z) ≡ keptBack (boardIn bs) results
 unfolding boardIn boardOf regionsIn
 back-kept bs y z results h e i f j =
-    let same : part 0 256 (putMid 1280 256 bs y) ≡ part 0 256 bs = part-before 1280 256 bs y (omega (arith, h)) (e ∙ part-wide 1280 256 bs (omega (arith, h))) 0 256 (omega arith) in
+    let same : part 0 256 (putMid 1280 256 bs y) ≡ part 0 256 bs = part-before 1280 256 bs y (omega (arith, h)) (e ∙ part-length 1280 256 bs (omega (arith, h))) 0 256 (omega arith) in
     let new = overBytes (part 0 256 bs) results in
     back-put (putMid 1280 256 bs y) z (same-len-mid 1280 256 bs y e ∙ h) new f (j ∙ ap (λ (o : List ℕ). overBytes o results) same)
     ∙ ap (λ (B : Board). withBack B new) (asked-put bs y h (take (resultCount results) (listIn (part 1280 256 bs))) e i)

@@ -10,8 +10,7 @@ use Rattle.engine.specs.Engine.{engineFrom, engineIn, stored}
 use Rattle.engine.specs.declared.Engine.{Engine}
 use Rattle.board.specs.Regions.{part, boardSize}
 use Rattle.board.specs.Board.{Board, boardIn}
-use Rattle.board.proofs.Laws.{part-same, part-before, part-after}
-use Rattle.board.proofs.CallLaws.{part-length}
+use Rattle.board.proofs.Laws.{part-length, part-same, part-before, part-after}
 use Rattle.worker.specs.Worker.{Worker, worker}
 use Rattle.capi.specs.Memory.{memorySize, workerIn}
 

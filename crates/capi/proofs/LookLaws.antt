@@ -15,7 +15,7 @@ use Rattle.statistics.specs.Stats.{groupsOf}
 use Rattle.statistics.proofs.StatLaws.{told-few}
 use Rattle.board.specs.Board.{Board, factsOf, rowCells}
 use Rattle.board.specs.Regions.{part, boardSize}
-use Rattle.board.proofs.CallLaws.{part-length}
+use Rattle.board.proofs.Laws.{part-length}
 use Rattle.worker.specs.Worker.{Worker}
 use Rattle.worker.proofs.StepLaws.{tags-long}
 use Rattle.capi.specs.Memory.{memorySize, notAnEngine, workerIn}
