@@ -47,10 +47,12 @@ use Rattle.turns.proofs.KeepLaws.{Keeps, index-kept, keeps-all, taken-t
 use Rattle.turns.proofs.StillLaws.{keeps-refl}
 use Rattle.turns.proofs.SoundLaws.{Sound, LastPast, finite-number, indexOf, listedOf, listed-kept, sound-kept, sound-step, respects-step}
 
+-- two checks in a row that refuse nothing
 first-zero : (n m : ℕ) → first n m ≡ 0 → (n ≡ 0) × (m ≡ 0)
 first-zero zero m e = (refl, e)
 first-zero (suc n) m e = let z : eqb (suc n) 0 ≡ false = ne-eqb (suc n) 0 (λ q. omega arith) in absurd (let x : suc n ≡ 0 = rw z at e in omega arith)
 
+-- check 23 refuses nothing
 tag-found : (b c : Bool) → _≡_ {A = ℕ} (cond b 23 (cond c 24 0)) 0 → b ≡ false
 tag-found true c e = absurd (omega arith)
 tag-found false c e = refl
@@ -154,6 +156,7 @@ module _ (o : Options) (ns : List (List ℕ)) (W : Worker) (s : Sound o ns W) wh
 
 -- ---- creation
 
+-- no tag of a fresh table is in a tier
 fresh-tier : (n k : ℕ) → getD (replicate n freshTag) k freshTag .tier ≡ 0
 fresh-tier n k = go (ltb k n) refl
   where
@@ -218,6 +221,7 @@ module _ (o : Options) (ns : List (List ℕ)) where
   abbrev S : ℕ
   S = slicesOf (o .period) (o .cycle)
 
+  -- a call that is refused leaves the engine as it was
   sound-if : (n : ℕ) (done W : Worker) → (n ≡ 0 → Sound o ns done) → Sound o ns W → Sound o ns (accepted n done W)
   sound-if n done W p q = go (eqb n 0) refl
     where
@@ -225,10 +229,12 @@ module _ (o : Options) (ns : List (List ℕ)) where
       go true e = p (eqb-true n 0 e)
       go false e = q
 
+  -- the same of what is kept
   keeps-if : (b : Bool) (done W : Worker) → Keeps W done → Keeps W (cond b done W)
   keeps-if true done W k = k
   keeps-if false done W k = keeps-refl W
 
+  -- a write keeps all that rule 6 goes by
   keeps-wrote : (W : Worker) (tag kind word : ℕ) → Keeps W (after (write tag kind word) W)
   unfolding after
   keeps-wrote W tag kind word =
@@ -251,11 +257,13 @@ module _ (o : Options) (ns : List (List ℕ)) where
   sound-after (lookPanel out) W s = s
   sound-after (lookTag tag) W s = s
 
+  -- a tier call or a load, accepted or not, respects rule 6
   retiers : (b : Bool) (done W : Worker) → indexOf done ≡ indexOf W → Respects S indexOf listedOf W (cond b retiered quiet) (cond b done W)
   unfolding Respects
   retiers true done W e = e
   retiers false done W e = (refl, refl)
 
+  -- what keeps all that rule 6 goes by respects it
   stays : (W X : Worker) → Keeps W X → Respects S indexOf listedOf W quiet X
   unfolding Respects
   stays W X k = (index-kept W X k, listed-kept W X k)

@@ -24,6 +24,7 @@ use Rattle.turns.proofs.NamedLaws.{by-name}
 
 -- creation answers 0 on an engine's memory alone, and leaves a fresh engine there
 module _ (s : Setup) (mem fresh : List ℕ) (m : Called mem fresh 0 (creationCheck s) (freshWorker s)) where
+  -- the memory had the length of an engine's
   made-size : length mem ≡ memorySize
   made-size = go (eqb (length mem) memorySize) refl
     where
@@ -31,15 +32,19 @@ module _ (s : Setup) (mem fresh : List ℕ) (m : Called mem fresh 0 (creationChe
       go true e = eqb-true (length mem) memorySize e
       go false e = absurd (let z : 0 ≡ 100 = m .alien (eqb-false (length mem) memorySize e) in omega arith)
 
+  -- and has it still
   made-fit : Fit fresh
   made-fit = m .long ∙ made-size
 
+  -- nothing that creation was given is refused
   made-checked : creationCheck s ≡ 0
   made-checked = sym (m .code made-size)
 
+  -- it holds a fresh engine
   made-fresh : workerIn fresh ≡ freshWorker s
   made-fresh = m .done made-size made-checked
 
+  -- its directory has 120 names at most
   made-few : length (namesOf (s .names) (s .ends)) ≤ 120
   made-few = rw (length-names (s .names) (s .ends)) (names-few s made-checked)
 

@@ -35,15 +35,18 @@ pub ready : (c : Call) (mem : List ℕ) → Fit mem → Asked c mem
 ready c mem f = ready-said c mem
 
 module _ (old : List ℕ) (f : Fit old) where
+  -- the test for an engine's memory is met
   is-engine : isEngine old ≡ true
   is-engine = eq-eqb (length old) memorySize f
 
+  -- a call that answers a number
   numbered : (a : Answer) (new : List ℕ) (r n : ℕ) (W : Worker) → a ≡ numberIs r → Called old new r n W
       → (a ≡ numberIs n) × (workerIn new ≡ cond (eqb n 0) W (workerIn old)) × Fit new
   numbered a new r n W e c =
       let k = called-is old new r n W f c in
       (e ∙ ap numberIs (k .0), k .1, k .2)
 
+  -- a look leaves the memory as it was
   looked : (a b : Answer) (new : List ℕ) → a ≡ b → new ≡ old → (a ≡ b) × (workerIn new ≡ workerIn old) × Fit new
   looked a b new e l = (e, ap workerIn l, ap length l ∙ f)
 

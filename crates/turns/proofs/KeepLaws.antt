@@ -86,6 +86,7 @@ keeps-records W tags e =
     let old = W .board .table .tags in
     keeps-tags W tags (places-tiers tags old e) (rated-same tags old (places-settings tags old e))
 
+-- one after the other
 pub keeps-after : (A B C : Worker) → Keeps A B → Keeps B C → Keeps A C
 keeps-after A B C p q = record {
   options-kept = q .options-kept ∙ p .options-kept;
@@ -103,6 +104,7 @@ keeps-after A B C p q = record {
 
 -- ---- records of tags: their tiers and settings
 
+-- either of two
 cond-tags : {A : Type 0} (g : Tag → A) (b : Bool) (x y l : List Tag) → map g x ≡ map g l → map g y ≡ map g l → map g (cond b x y) ≡ map g l
 cond-tags g true x y l p q = p
 cond-tags g false x y l p q = q
@@ -113,6 +115,7 @@ unfolding appliedAt tagRead
 applied-places tags k r start t polled =
     cond-tags placeOf (eqb (getD tags k freshTag .tier) 0) tags _ tags refl (set-kept placeOf tags k (tagApplied (getD tags k freshTag) r start t polled) refl)
 
+-- so do all readings of an answer
 pub apply-places : (n : ℕ) (results : List ℕ) (start : Float) (t : ℤ) (polled : Bool) (i : ℕ) (ks : List ℕ) (S : Applying)
     → places (applyFrom n results start t polled i ks S .tags) ≡ places (S .tags)
 unfolding applyFrom applyNext
@@ -133,10 +136,12 @@ unfolding eachAt
 each-tiers f h i [] = refl
 each-tiers f h i (x ∷ l) = rw (h i x, each-tiers f h (suc i) l)
 
+-- all settings of a table
 pub taken-tiers : (changed : Bool) (settings words : List ℕ) (tags : List Tag) → tiers (tableTaken changed settings words tags) ≡ tiers tags
 unfolding tagTaken
 taken-tiers changed settings words tags = each-tiers (takenAt changed settings words) (λ i x. refl) 0 tags
 
+-- a version answer
 pub version-tiers : (old new : Version) (connecting : Bool) (settings words : List ℕ) (tags : List Tag) → tiers (versionTable old new connecting settings words tags) ≡ tiers tags
 unfolding versionTable
 version-tiers old new connecting settings words tags =
@@ -148,12 +153,15 @@ pub record Still (W : Worker) (T : Told) : Type 0 where
   pub keeps : Keeps W (T .left)
   pub no-round : T .round ≡ none
 
+-- something told by an engine that keeps all
 pub still-tell : (W M : Worker) (r : Reply) (cells : List ℕ) → Keeps W M → Still W (tell M r cells)
 still-tell W M r cells k = record { keeps = k; no-round = refl }
 
+-- either of two
 pub still-if : (W : Worker) (b : Bool) (x y : Told) → Still W x → Still W y → Still W (cond b x y)
 still-if W true x y p q = p
 still-if W false x y p q = q
 
+-- told from an engine that keeps all
 pub still-after : (W M : Worker) (T : Told) → Keeps W M → Still M T → Still W T
 still-after W M T k s = record { keeps = keeps-after W M (T .left) k (s .keeps); no-round = s .no-round }

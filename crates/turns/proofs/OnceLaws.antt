@@ -44,6 +44,7 @@ use Rattle.turns.proofs.SoundLaws.{Sound, sound-kept, sound-clocked}
 use Rattle.turns.proofs.CallLaws.{cycle-good, each-call}
 use Rattle.turns.proofs.TickLaws.{ms, Rated, self-zero, tick-low, tick-high, not-negative, waits, boundary-zero}
 
+-- either of two
 told-if : (b : Bool) (x y : Told) → goesOn x ≡ false → goesOn y ≡ false → goesOn (cond b x y) ≡ false
 told-if true x y p q = p
 told-if false x y p q = q
@@ -53,6 +54,7 @@ cycle-cases : (c : Float) → cycleOk c ≡ true → T (eq c (float 0)) ⊎ (T (
 cycle-cases c h = elim (or-yes (eq c (float 0)) (le ms c && le c (float 3600)) (yes h)) [ inl z ↦ inl z | inr u ↦ inr (and-l (le ms c) (le c (float 3600)) u, and-r (le ms c) (le c (float 3600)) u) ]
 
 module _ (at : At) (f : T (finite (at .clock))) where
+  -- a write is told; without one it goes on where it came from
   writing-told : (W : Worker) (a : After) → goesOn (resume W at a) ≡ false → goesOn (writing W at a) ≡ false
   unfolding writingOf
   writing-told W a h = go (popped (W .board .queue))
@@ -74,6 +76,7 @@ module _ (at : At) (f : T (finite (at .clock))) where
     start-now : W .head .progress .start ≡ at .clock
     tick-good : W .head .progress .boundary ≡ false → T (le ms (W .head .progress .tick)) × T (le (W .head .progress .tick) (float 3600))
 
+  -- at a boundary the version is asked for; otherwise writes go out, and the tick is waited for
   checking-told : (W : Worker) → Begun W → goesOn (checking W at) ≡ false
   unfolding checking resume
   checking-told W b = go (W .head .progress .boundary) refl
@@ -82,6 +85,7 @@ module _ (at : At) (f : T (finite (at .clock))) where
       go true e = refl
       go false e = writing-told W Tail (tail-told W (b .start-now) (b .tick-good e .0) (b .tick-good e .1))
 
+  -- descriptions are asked for, or it goes on to the version
   reading-told : (W : Worker) → Begun W → goesOn (reading W at) ≡ false
   unfolding reading
   reading-told W b =
@@ -138,6 +142,7 @@ module _ (o : Options) (ns : List (List ℕ)) (c : cycleOk (o .cycle) ≡ true) 
       let sm = sound-kept N M kept o ns sn in
       rw (lastly-told at (sn .clock-fine) M (ap (λ (x : Options). cycleOk (x .cycle)) (sm .options-same) ∙ c) (sm .rated) (rw (kept .clock-kept) at (sm .last-past))) refl
 
+  -- every call of a sound engine
   once-call : (x : Call) (W : Worker) → Sound o ns W → Once (moment x W)
   unfolding Once
   once-call (tier clock tag to) W s = tt

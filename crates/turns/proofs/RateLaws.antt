@@ -34,14 +34,17 @@ rated-same a b e r k =
 -- ---- tier calls and loads
 
 module _ (T : Table) (k : ℕ) where
+  -- a tag put in a tier
   put-settings : (tier : ℕ) (g : Grace) → map settingsOf (putTable T k tier g .tags) ≡ map settingsOf (T .tags)
   unfolding putTable tagSet
   put-settings tier g = set-kept settingsOf (T .tags) k _ refl
 
+  -- a tag that enters a grace
   enter-settings : (deadline : Float) (after : ℕ) → map settingsOf (enterGrace T k deadline after .tags) ≡ map settingsOf (T .tags)
   unfolding enterGrace
   enter-settings deadline after = put-settings 2 (graceUntil deadline after)
 
+  -- either of two tables
   either : (b : Bool) (x y : Table) → map settingsOf (x .tags) ≡ map settingsOf (T .tags) → map settingsOf (y .tags) ≡ map settingsOf (T .tags)
       → map settingsOf (cond b x y .tags) ≡ map settingsOf (T .tags)
   either true x y p q = p
@@ -67,11 +70,13 @@ load-settings T (k ∷ ks) (t ∷ ts) grace clock = load-settings (setTier T k t
 
 -- ---- settings that check 14 lets in
 
+-- both tests of two are met
 both : (a b : Bool) → (a && b) ≡ true → (a ≡ true) × (b ≡ true)
 both true true e = (refl, refl)
 both true false e = absurd (true≢false (sym e))
 both false b e = absurd (true≢false (sym e))
 
+-- a setting
 rated-setting : (ws : List ℕ) → settingOk ws ≡ true → isRated (settingFrom ws) ≡ true
 unfolding settingOk settingFrom
 rated-setting ws e = go (getD ws 1 0) (getD ws 2 0) (both (finite (ofBits binary64 (getD ws 0 0))) _ e .1)
@@ -87,12 +92,14 @@ rated-setting ws e = go (getD ws 1 0) (getD ws 2 0) (both (finite (ofBits binary
         let s : r % 0x1_0000_0000 ≡ r = mod-eq-of-lt (ltb-true r 0x1_0000_0000 (w .1)) in
         rw (lt-ltb 0 (suc g) (omega arith), s, lt-ltb 0 r p) refl
 
+-- all settings of a list
 rated-records : (rs : List (List ℕ)) → every settingOk rs ≡ true → (i : ℕ) → isRated (getD (map settingFrom rs) i noSettings) ≡ true
 unfolding every
 rated-records [] e i = refl
 rated-records (ws ∷ rs) e zero = rated-setting ws (both (settingOk ws) (every settingOk rs) e .0)
 rated-records (ws ∷ rs) e (suc i) = rated-records rs (both (settingOk ws) (every settingOk rs) e .1) i
 
+-- a table whose tags are each given such a setting
 rated-each : (f : ℕ → Tag → Tag) → ((i : ℕ) (x : Tag) → isRated (f i x .settings) ≡ true) → (i : ℕ) (tags : List Tag) → Rated (eachAt f i tags)
 unfolding eachAt
 rated-each f h i [] k = refl

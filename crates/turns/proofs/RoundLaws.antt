@@ -26,11 +26,13 @@ use Rattle.rounds.proofs.NameLaws.{listed-run-out}
 use Rattle.turns.proofs.TierLaws.{tiers, map-kept, set-kept, tierOf, settingsOf, tags-long, listed-tags, tier2-same}
 use Rattle.turns.proofs.InsideLaws.{Inside, inside-run-out, expired-inside}
 
+-- graces that run out keep the number of tags
 run-out-long : (T : Table) (ks : List ℕ) → length (runOut T ks .tags) ≡ length (T .tags)
 unfolding runOut putTable
 run-out-long T [] = refl
 run-out-long T (k ∷ ks) = run-out-long (setTable T k (tagAt T k .grace .after)) ks ∙ length-set (T .tags) k _
 
+-- reading times keep the tiers
 tiers-marked : (tags : List Tag) (clock : Float) (ks : List ℕ) → tiers (marked tags clock ks) ≡ tiers tags
 unfolding marked
 tiers-marked tags clock [] = refl
@@ -62,10 +64,12 @@ module _ (less : ℕ → ℕ → Bool) (rooms : Rooms) (o : Options) (P : Pollin
   abbrev T1 : Table
   T1 = runOut T (R .ranOut)
 
+  -- the graces that run out are of tags of the table
   ran-out-below : Listed T → Below (length (T .tags)) (R .ranOut)
   unfolding round
   ran-out-below l = expired-inside (length (T .tags)) T (record { order-inside = order-below T l; graces-inside = l .graced }) (R .boundary) (rooms .wanted) clock
 
+  -- after the graces have run out no tier changes
   round-tiers : tiers (R .after .table .tags) ≡ tiers (T1 .tags)
   unfolding round
   round-tiers = map-kept tierOf settled (λ x. refl) (marked (T1 .tags) clock (R .due)) ∙ tiers-marked (T1 .tags) clock (R .due)

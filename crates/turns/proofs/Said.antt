@@ -1,4 +1,5 @@
--- What the contract of each entry point says, in terms of what the lent memory and the lent lists hold.
+-- What the contract of each entry point says, in terms of what the lent memory and the lent lists hold: `X-said` of the entry point X. A contract that says less is
+-- refused here.
 use mathlib.Core.Path.{_≡_}
 use mathlib.Core.List.{List}
 use Prim.Native.Nat.{ℕ}

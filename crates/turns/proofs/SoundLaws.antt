@@ -72,6 +72,7 @@ finite-number (fin s m e) h = tt
 -- ---- what is kept
 
 module _ (A B : Worker) (k : Keeps A B) where
+  -- the tier-2 tags in slice order stay
   pub listed-kept : listedOf B ≡ listedOf A
   listed-kept =
       ap (λ (l : List ℕ). tier2Tags (byKeys l) (B .board .askedRoom) (B .board .table .tags) (B .board .table .order)) (k .keys-kept)
@@ -79,6 +80,7 @@ module _ (A B : Worker) (k : Keeps A B) where
       ∙ ap (λ (l : List ℕ). tier2Tags (byKeys (A .board .keys)) (A .board .askedRoom) (B .board .table .tags) l) (k .order-kept)
       ∙ tier2-same (byKeys (A .board .keys)) (A .board .askedRoom) (B .board .table .tags) (A .board .table .tags) (k .tiers-kept) (A .board .table .order)
 
+  -- so does soundness
   pub sound-kept : (o : Options) (ns : List (List ℕ)) → Sound o ns A → Sound o ns B
   sound-kept o ns s =
       let TA = A .board .table in
@@ -107,6 +109,7 @@ module _ (A B : Worker) (k : Keeps A B) where
 -- ---- a round
 
 module _ (o : Options) (ns : List (List ℕ)) (M : Worker) (at : At) (s : Sound o ns M) where
+  -- what the round goes by
   abbrev pub less : ℕ → ℕ → Bool
   less = byKeys (M .board .keys)
 
@@ -129,6 +132,7 @@ module _ (o : Options) (ns : List (List ℕ)) (M : Worker) (at : At) (s : Sound 
   pub round-inside : Inside (M .head .count) (left .board .table)
   round-inside = inside-round less rooms (M .head .options) P (at .clock) (M .head .count) (s .inside)
 
+  -- its lists have room for all tags
   pub round-room : length (left .board .table .tags) ≤ left .board .askedRoom
   round-room = rw (round-long less rooms (M .head .options) P (at .clock) (s .listed)) (s .room)
 
@@ -156,6 +160,7 @@ module _ (o : Options) (ns : List (List ℕ)) (M : Worker) (at : At) (s : Sound 
   tier2-is : R .tier2 ≡ listedOf left
   tier2-is = sym (tier2-left less rooms (M .head .options) P (at .clock))
 
+  -- where no grace runs out the tier-2 tags stay
   same-listed : R .ranOut ≡ [] → listedOf left ≡ listedOf M
   same-listed e =
       let z = none-ran-out less rooms (M .head .options) P (at .clock) e in

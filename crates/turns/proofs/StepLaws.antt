@@ -26,14 +26,17 @@ pub data Did (W : Worker) (at : At) (T : Told) : Type 0 where
   oneRound : (M : Worker) → Keeps W M → T .round ≡ some (roundAt M at) → Keeps (withWorked M at (roundAt M at)) (T .left) → Did W at T
 
 module _ (at : At) where
+  -- either of two
   did-if : (W : Worker) (b : Bool) (x y : Told) → Did W at x → Did W at y → Did W at (cond b x y)
   did-if W true x y p q = p
   did-if W false x y p q = q
 
+  -- from an engine that keeps all
   did-after : (W M : Worker) (T : Told) → Keeps W M → Did M at T → Did W at T
   did-after W M T k (nothing s) = nothing (record { keeps = keeps-after W M (T .left) k (s .keeps); no-round = s .no-round })
   did-after W M T k (oneRound N j e l) = oneRound N (keeps-after W M N k j) e l
 
+  -- a poll works out one round, or none
   did-poll : (W : Worker) → Did W at (poll W at)
   unfolding poll polled
   did-poll W =
@@ -43,6 +46,7 @@ module _ (at : At) where
       let s : Still next T = still-if next (isEmpty (R .list)) _ _ (still-reading at next) (still-tell next (phased next Read) _ _ (keeps-all next (phased next Read) refl refl refl refl refl refl refl)) in
       did-if W (W .head .link .stopping) _ _ (nothing (still-writing at W End)) (oneRound W (keeps-refl W) refl (s .keeps))
 
+  -- what follows it works out none
   did-lastly : (W : Worker) (T : Told) → Did W at T → Did W at (lastly T at)
   did-lastly W T d = did-if W (goesOn T) _ T (go d) d
     where
@@ -56,6 +60,7 @@ module _ (at : At) where
       go (nothing s) = nothing (record { keeps = keeps-after W (T .left) (W' .left) (s .keeps) waits; no-round = s .no-round })
       go (oneRound M k e l) = oneRound M k e (keeps-after (withWorked M at (roundAt M at)) (T .left) (W' .left) l waits)
 
+  -- so a step works out one at most
   did-finished : (W : Worker) (T : Told) → Still W T → Did W at (finished T at)
   unfolding finished
   did-finished W T s =

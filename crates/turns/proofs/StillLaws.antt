@@ -1,4 +1,5 @@
--- Every part of a step but the round keeps the tiers, the order and the slice index.
+-- Every part of a step but the round keeps the tiers, the order and the slice index. `still-X` says it of the definition X of `worker`: what X tells leaves an
+-- engine that keeps all that `Keeps` names, and is no round.
 use mathlib.Core.Path.{_≡_, refl}
 use mathlib.Core.Bool.{Bool, true, false, cond}
 use mathlib.Core.List.{List, [], map}
@@ -39,6 +40,7 @@ use Rattle.turns.proofs.KeepLaws.{Keeps, keeps-all, keeps-tags, keeps-r
 -- ---- the end, and a connection that is lost
 
 module _ (W : Worker) where
+  -- nothing done
   pub keeps-refl : Keeps W W
   keeps-refl = keeps-all W W refl refl refl refl refl refl refl
 
@@ -176,6 +178,7 @@ still-round-version W at a ok =
     still-if W (isReloaded (W .head .link .version) (numberOf a)) _ _ (still-told W next _ _ _ k (keeps-all next _ refl refl refl refl refl refl refl))
     (still-after W next (writing next at Tail) k (still-writing at next Tail))
 
+-- readings applied
 keeps-applied : (W : Worker) (given : List ℕ) (start : Float) (t : ℤ) (polled : Bool) → Keeps W (withBoard W (appliedTo (W .board) given start t polled .board))
 unfolding appliedTo
 keeps-applied W given start t polled =
@@ -191,6 +194,7 @@ still-results W at a =
     (still-if W (isEmpty (C .changes)) _ _ (still-after W next (reading next at) k (still-reading at next))
     (still-told W next _ _ _ k (keeps-all next _ refl refl refl refl refl refl refl)))
 
+-- either of two
 cond-known : (b : Bool) (x y : List Tag) (P : List Tag → Type 0) → P x → P y → P (cond b x y)
 cond-known true x y P p q = p
 cond-known false x y P p q = q
@@ -233,6 +237,7 @@ pub still-backed-off : (W : Worker) → Still W (backedOff W)
 unfolding backedOff
 still-backed-off W = still-if W (W .head .link .stopping) _ _ (still-ended W) (still-reconnecting W)
 
+-- a connect answered
 still-connect-answered : (W : Worker) (a : Answer) → Still W (connectAnswered W a)
 still-connect-answered W a = still-if W (eqb (a .kind) 1) _ _ (still-opened W) (still-down W)
 

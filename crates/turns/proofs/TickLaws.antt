@@ -62,6 +62,7 @@ pub rate-least : (r : ℕ) → 0 < r → T (le ms (rateSeconds r))
 unfolding ofInt
 rate-least r h = over-1000 (float r) (round-mono binary64 1 1 r 1 (pow-pos 0) (pow-pos 0) (omega arith))
 
+-- a test that is met
 met : (b : Bool) → T b → b ≡ true
 met true h = refl
 met false h = absurd h
@@ -81,6 +82,7 @@ isRated s = not (s .grouped) || ltb 0 (s .rate)
 abbrev pub Rated : List Tag → Type 0
 Rated tags = (k : ℕ) → isRated (getD tags k freshTag .settings) ≡ true
 
+-- the rate of such a setting
 rate-low : (s : Settings) (cycle : Float) → isRated s ≡ true → T (le ms cycle) → T (le ms (rateOf s cycle))
 rate-low s cycle r c = go (s .grouped) refl r
   where
@@ -89,6 +91,7 @@ rate-low s cycle r c = go (s .grouped) refl r
     go false q e = c
 
 module _ (tags : List Tag) (r : Rated tags) (cycle : Float) (c : T (le ms cycle)) where
+  -- the lesser of two
   least-low : (a b : Float) → T (le ms a) → T (le ms b) → T (le ms (least a b))
   least-low a b p q = go (lt b a)
     where
@@ -141,14 +144,17 @@ ms-less-zero = ap (λ (x : Float). add binary64 x (neg (float 0))) ms-is ∙ les
 
 -- with nothing elapsed, a tick of 0.001 s or more is waited for
 module _ (tick : Float) (lo : T (le ms tick)) (hi : T (le tick (float 3600))) where
+  -- the tick is finite
   pub tick-finite : T (finite tick)
   unfolding round ofInt
   tick-finite = finite-between ms tick (float 3600) tt tt lo hi
 
+  -- nothing elapsed is not more than the tick
   pub not-negative : le (float 0) tick ≡ true
   unfolding round ofInt
   not-negative = met (le (float 0) tick) (le-trans-float (float 0) ms tick (unfold le lt in tt) lo)
 
+  -- what is left of the tick is 0.001 s or more
   left-low : T (le ms (sub binary64 tick (float 0)))
   unfolding sub
   left-low =
@@ -156,6 +162,7 @@ module _ (tick : Float) (lo : T (le ms tick)) (hi : T (le tick (float 3600))) wh
       (add-order binary64 ms tick (neg (float 0)) (neg (float 0)) (unfold round in tt) tick-finite (unfold neg ofInt round in tt) (unfold neg ofInt round in tt) lo
       (unfold neg le lt eq ofInt round in tt))
 
+  -- so it is waited for
   pub waits : le (sub binary64 tick (float 0)) tenth ≡ false
   unfolding round ofInt
   waits = refuted (le (sub binary64 tick (float 0)) tenth) (λ h. unfold le lt eq in le-trans-float ms (sub binary64 tick (float 0)) tenth left-low h)
@@ -163,6 +170,7 @@ module _ (tick : Float) (lo : T (le ms tick)) (hi : T (le tick (float 3600))) wh
 -- ---- cycle 0
 
 module _ (c : Float) (z : T (eq c (float 0))) where
+  -- it is not above 0
   zero-low : T (le c (float 0))
   unfolding le
   zero-low = or-right (lt c (float 0)) (eq c (float 0)) z
@@ -180,6 +188,7 @@ module _ (c : Float) (z : T (eq c (float 0))) where
       go true h = sym (mul-one (m * up e)) ∙ eqb→eq (m * up e * 1) (0 * 1 * down e) (and-l (eqb (m * up e * 1) (0 * 1 * down e)) (eqb (m * up e * 1) 0) h) ∙ zero-mul (down e)
       go false h = sym (mul-one (m * up e)) ∙ eqb→eq (m * up e * 1) (0 * 1 * down e) (and-l (eqb (m * up e * 1) (0 * 1 * down e)) true h) ∙ zero-mul (down e)
 
+  -- it is finite
   pub zero-finite : T (finite c)
   unfolding eq ofInt
   zero-finite = go c refl
@@ -194,6 +203,7 @@ module _ (c : Float) (z : T (eq c (float 0))) where
   unfolding round ofInt
   not-below x h = refuted (lt x c) (λ l. unfold le lt eq in le-trans-float ms c (float 0) (le-trans-float ms x c h (lt→le x c l)) zero-low)
 
+  -- nor is it below itself
   not-below-self : lt c c ≡ false
   unfolding lt
   not-below-self = go c refl

@@ -30,10 +30,12 @@ tiers tags = map (λ (x : Tag). x .tier) tags
 
 -- what g sees of the tags of a table stays, if it stays of each tag that is changed
 module _ {A : Type 0} (g : Tag → A) where
+  -- each tag changed
   pub map-kept : (f : Tag → Tag) → ((x : Tag) → g (f x) ≡ g x) → (tags : List Tag) → map g (map f tags) ≡ map g tags
   map-kept f h [] = refl
   map-kept f h (x ∷ l) = rw (h x, map-kept f h l)
 
+  -- one tag changed
   pub set-kept : (tags : List Tag) (k : ℕ) (x : Tag) → g x ≡ g (getD tags k freshTag) → map g (set tags k x) ≡ map g tags
   set-kept [] k x e = refl
   set-kept (y ∷ l) zero x e = rw e
@@ -72,9 +74,11 @@ places-settings a b e = sym (of a) ∙ ap (map (λ (p : Place). p .settings)) e 
     of (x ∷ l) = ap (λ (ts : List Settings). x .settings ∷ ts) (of l)
 
 module _ (a b : List Tag) (e : tiers a ≡ tiers b) where
+  -- each tag is in the same tier
   pub tier-same : (k : ℕ) → getD a k freshTag .tier ≡ getD b k freshTag .tier
   tier-same k = sym (map-at (λ (x : Tag). x .tier) a k freshTag) ∙ ap (λ (ts : List ℕ). getD ts k 0) e ∙ map-at (λ (x : Tag). x .tier) b k freshTag
 
+  -- there are as many tags
   pub tags-long : length a ≡ length b
   tags-long = sym (long a) ∙ ap length e ∙ long b
     where
@@ -92,6 +96,7 @@ listed-tags T tags e l = record {
 
 -- ---- the tier-2 tags
 
+-- two tests that agree keep the same
 keep-same : (p q : ℕ → Bool) → ((k : ℕ) → p k ≡ q k) → (l : List ℕ) → keep p l ≡ keep q l
 unfolding keep
 keep-same p q h [] = refl
@@ -109,6 +114,7 @@ none-cut T l room h = take-all room (keep (isTier2 (T .tags)) (T .order)) (omega
     few = length-few (length (T .tags)) (T .order) (order-below T l) (λ k. at-most k (tagAt T k .tier) (l .once k))
 
 module _ (less : ℕ → ℕ → Bool) (room : ℕ) where
+  -- tables with the same tiers have the same tier-2 tags
   pub tier2-same : (a b : List Tag) → tiers a ≡ tiers b → (order : List ℕ) → tier2Tags less room a order ≡ tier2Tags less room b order
   tier2-same a b e order = ap (λ (l : List ℕ). sort less (take room l)) (keep-same (isTier2 a) (isTier2 b) (λ k. ap (λ (n : ℕ). eqb n 2) (tier-same a b e k)) order)
 
