@@ -1,7 +1,7 @@
 -- The engine that lent memory holds, and what a call on it comes to.
 use mathlib.Core.List.{List}
 use mathlib.Core.Path.{_≡_}
-use Prim.Native.Nat.{ℕ, _+_}
+use Prim.Native.Nat.{ℕ, _+_, _*_}
 use lib.ListN.{length}
 use Rattle.engine.specs.Engine.{engineIn}
 use Rattle.board.specs.Regions.{part, boardSize}
@@ -11,6 +11,19 @@ use Rattle.worker.specs.Worker.{Worker, worker}
 -- the head is one row, and the board stands behind it
 abbrev pub memorySize : ℕ
 memorySize = 38400
+
+-- Check 43: the room that lists lent for writing must have, in bytes; a cell is eight. 120 changes, 16 groups, 120 rows of the table, a panel list of 120 tags.
+abbrev pub listSize : ℕ
+listSize = 120 * 56
+
+abbrev pub groupStatsSize : ℕ
+groupStatsSize = 16 * 40
+
+abbrev pub tableSize : ℕ
+tableSize = 120 * 16
+
+abbrev pub panelSize : ℕ
+panelSize = 1 + 2 * 120
 
 unfoldable pub workerIn : List ℕ → Worker
 workerIn bs = worker (engineIn (part 0 256 bs)) (boardIn (part 256 boardSize bs))

@@ -5,4 +5,5 @@ pub mod calls; // tier calls, loads, writes, stops, steps
 mod checks; // their checks
 pub mod creation; // creation
 pub mod looks; // looks, which change nothing
+pub mod sizes; // sizes of what the host lends
 mod whole; // the head and the board in one memory
