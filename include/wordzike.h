@@ -1,0 +1,268 @@
+/* Wordzike: a polling engine for programmable controllers, as C functions. For x86-64, System V calling convention.
+ *
+ * The host lends all memory and does all input and output. An engine is WZ_MEMORY bytes that wz_create fills; what they
+ * hold is the engine's own affair, and nobody else may write them. They may be copied, moved and kept: there are no
+ * addresses in them. No function allocates, blocks or keeps an address after it has returned. Calls on one engine must
+ * not overlap in time; different engines share nothing.
+ *
+ * A tag is its rank in the directory, from 0. Clock readings are seconds, wall times milliseconds.
+ *
+ * Lent memory. Each pointer is followed by how many bytes stand there (`ends`: how many numbers). They need no alignment,
+ * but for `ends`. With length 0 a pointer is not followed. Memory lent for writing must not overlap any other argument.
+ * Every content and every length is allowed; what does not fit is refused.
+ *
+ * Records are cells of 8 bytes each, the low byte first. Signed numbers are in two's complement, floats are the bits of
+ * their binary64.
+ *
+ *   value        two cells: kind (WZ_NULL and so on) and word: 0 for null, 0 or 1 for a bool, the number of an integer, the
+ *                bits of a float. What the host hands in may have any word but 0 for true; a kind above 3 is read as null.
+ *   error        two cells: 0 for none, 1 not found, 2 no access, the code and 3 (3 to 65538) for another; and the number of
+ *                its message, below 2^32.
+ *   entry        six cells: 0 where there is none, or the quality (WZ_GOOD and so on); the value; the wall time; the error.
+ *
+ * Refusals. A function answers 0, or the number of document 01's check that refuses: then nothing at all was written, and
+ * all else in the answer is 0. Where several are met the answer is the first in the order given with each function.
+ *
+ *    1  the directory has no name, or more than 120
+ *    2  an end place falls back, passes the buffer, or gives a length of 0 or above 40; or the last isn't the buffer's length
+ *    3  a name has a byte outside 33 to 126
+ *    4  a name is not above its forerunner in byte order
+ *   11  the cycle isn't 0, and isn't 0.001 to 3600 s
+ *   12  the tier-2 period isn't 0 to 86400 s
+ *   13  the grace isn't 0 to 86400 s
+ *   14  settings: not one for each tag, a deadband that isn't finite, a group above 15, or a rate of 0 or above 2^32 - 1;
+ *       configured groups: more than 16, no whole number of them, or one with such a number or rate
+ *   21  the clock reading isn't finite, is below 0 or above 1000000000
+ *   22  the clock reading is below the last one that was accepted
+ *   23  no such tag
+ *   24  the tier isn't 0 (none) to 3
+ *   31  a write, and the state isn't connected
+ *   32  a write, and 32 are queued
+ *   41  not the answer that is waited for; any step once the state is stopped
+ *   42  a float that isn't finite
+ *   43  a lent list has too little room
+ *   51  a panel list that is empty, or whose length isn't 1 + 2n
+ *   53  a panel list names a tag that is not there
+ *   54  a panel list names a tag twice
+ *   55  a tier in a panel list isn't 1 to 3
+ *   56  a panel list, and the engine has a tag in a tier already
+ *  100  the memory isn't WZ_MEMORY bytes long; this comes before all else, and is no number of document 01
+ */
+#ifndef WORDZIKE_H
+#define WORDZIKE_H
+
+#include <stddef.h>
+#include <stdint.h>
+
+#ifdef __cplusplus
+extern "C" {
+#endif
+
+/* Limits, and sizes in bytes. */
+#define WZ_TAGS 120            /* names in a directory, at most */
+#define WZ_NAME 40             /* bytes in a name, at most */
+#define WZ_GROUPS 16           /* groups; their numbers are 0 to 15 */
+#define WZ_WRITES 32           /* writes queued, at most */
+#define WZ_MEMORY 38400        /* an engine */
+#define WZ_SETTING 32          /* a tag's setting */
+#define WZ_CONFIGURED 16       /* a configured group */
+#define WZ_RESULT 32           /* a result of a read */
+#define WZ_DESCRIPTION 8       /* a description */
+#define WZ_LISTED 8            /* a tag in a list */
+#define WZ_CHANGE 56           /* a change in a list */
+#define WZ_LIST 6720           /* room that a step asks for: WZ_TAGS changes */
+#define WZ_GROUP_STATS 40      /* a group's statistics */
+#define WZ_GROUP_STATS_LIST 640 /* room that wz_group_stats asks for: WZ_GROUPS of them */
+#define WZ_TABLE_ROW 16        /* a row of the table */
+#define WZ_TABLE_LIST 1920     /* room that wz_table asks for: WZ_TAGS rows */
+#define WZ_PANEL_LIST 241      /* room that wz_panel asks for */
+
+#define WZ_NOT_AN_ENGINE 100   /* memory of another length than WZ_MEMORY */
+
+/* Kinds of values. */
+#define WZ_NULL 0
+#define WZ_BOOL 1
+#define WZ_INT 2
+#define WZ_FLOAT 3
+
+/* Qualities, as the first cell of an entry. */
+#define WZ_GOOD 1
+#define WZ_BAD 2
+#define WZ_MISSING 3
+#define WZ_STALE 4
+
+/* Errors; another error is its code and WZ_OTHER. */
+#define WZ_NO_ERROR 0
+#define WZ_NOT_FOUND 1
+#define WZ_ACCESS 2
+#define WZ_OTHER 3
+
+/* States. */
+#define WZ_CONNECTING 0
+#define WZ_CONNECTED 1
+#define WZ_DISCONNECTED 2
+#define WZ_STOPPED_STATE 3
+
+/* Answers of the host: `kind` of wz_step. Where nothing is said, number, message and list don't count. */
+#define WZ_BEGIN 0          /* the first answer to a new engine */
+#define WZ_OPENED 1         /* to WZ_CONNECT: there is a connection */
+#define WZ_NOT_OPENED 2     /* to WZ_CONNECT: there is none */
+#define WZ_NO_VERSION 3     /* to WZ_VERSION: null; list: the settings, as for wz_create */
+#define WZ_VERSION_IS 4     /* to WZ_VERSION: number; list: the settings, as for wz_create */
+#define WZ_RESULTS 5        /* to WZ_READ and WZ_READ_BACK: list: results */
+#define WZ_LOST 6           /* to WZ_READ, WZ_WRITE and WZ_READ_BACK: the connection was lost */
+#define WZ_WRITTEN 7        /* to WZ_WRITE: it went through */
+#define WZ_WRITE_REFUSED 8  /* to WZ_WRITE: the driver refused it; number: the error, 1 to 65538; message */
+#define WZ_DESCRIPTIONS 9   /* to WZ_DESCRIBE: list: descriptions */
+#define WZ_NOT_DESCRIBED 10 /* to WZ_DESCRIBE: they could not be read */
+#define WZ_WAITED 11        /* to WZ_WAIT: the time is over, or the host ends it early */
+#define WZ_TAKEN 12         /* to every event but WZ_STOPPED */
+
+/* What a step gives: `kind` of wz_reply. A list of tags is in `out`, one cell each; `count` says how many. */
+#define WZ_CONNECT 1        /* request: open the connection */
+#define WZ_VERSION 2        /* request: the version of the controller's tags */
+#define WZ_READ 3           /* request: read the listed tags, in this order */
+#define WZ_WRITE 4          /* request: write to `tag` the value in `value` and `word` */
+#define WZ_READ_BACK 5      /* request: read the listed tags after a write: the tag, and the word of a bit */
+#define WZ_DESCRIBE 6       /* request: the descriptions of the listed tags */
+#define WZ_WAIT 7           /* request: wait `seconds` */
+#define WZ_VALUES 8         /* event: changes, in tag order; seven cells each in `out`: the tag, then its entry */
+#define WZ_STATUS 9         /* event: the state turned to `what` */
+#define WZ_META 10          /* event: the controller's tags changed */
+#define WZ_INFO 11          /* event: the listed tags' descriptions are known */
+#define WZ_OUTCOME 12       /* event: a write to `tag` has ended; `what` is one of the three below */
+#define WZ_FAILED 13        /* event: queued writes that a lost connection took with it: the listed tags, in queue order */
+#define WZ_STOPPED 14       /* event, the last: no answer is taken any more; the listed tags' writes were left, in queue order */
+
+/* `what` of an outcome. */
+#define WZ_WENT_THROUGH 0   /* the value read back is in `value` and `word` */
+#define WZ_DRIVER_REFUSED 1 /* the driver's error is in `error` and `message` */
+#define WZ_WRITE_LOST 2     /* the connection was lost */
+
+/* What a step gives. Fields that the kind doesn't name are 0. */
+typedef struct {
+    uint64_t code;    /* 0, or the number of a refusal; then all else is 0 */
+    uint64_t kind;    /* WZ_CONNECT and so on */
+    uint64_t count;   /* records in `out` */
+    uint64_t tag;
+    uint64_t what;
+    uint64_t value;
+    uint64_t word;
+    uint64_t error;
+    uint64_t message;
+    double seconds;
+} wz_reply;
+
+typedef struct {
+    uint64_t code;    /* 0 or 100 */
+    uint64_t state;   /* WZ_CONNECTING and so on */
+    uint64_t known;   /* 0 where the version is null; then `version` is 0 */
+    uint64_t version;
+} wz_state_look;
+
+typedef struct {
+    uint64_t code;       /* 0 or 100 */
+    uint64_t timed;      /* 1 once a round has ended; until then `ms` and `ts` are 0 */
+    double ms;           /* how long the last round took, in milliseconds to a tenth */
+    int64_t ts;          /* the wall time of its end */
+    uint64_t reads;      /* reads of the last round */
+    uint64_t tags;       /* tags of the last round */
+    uint64_t overruns;   /* rounds that took longer than their tick */
+    uint64_t reconnects; /* attempts to connect again */
+    uint64_t reloads;    /* changes of a version that wasn't null */
+} wz_stats_look;
+
+typedef struct {
+    uint64_t code;    /* 0 or 100 */
+    uint64_t tier1;   /* tags in tier 1 */
+    uint64_t tier2;   /* in tier 2, those in grace included */
+    uint64_t tier3;
+} wz_counts_look;
+
+typedef struct {
+    uint64_t code;    /* 0, 43 or 100 */
+    uint64_t count;   /* records in `out`; of wz_panel bytes */
+} wz_list_look;
+
+typedef struct {
+    uint64_t code;        /* 0, 23 or 100 */
+    uint64_t tier;        /* 0 for none; a tag in grace has 2 */
+    uint64_t held;        /* the cached entry: 0 where there is none, or its quality */
+    uint64_t kind;        /* its value */
+    uint64_t word;
+    uint64_t t;           /* its wall time, signed */
+    uint64_t error;       /* its error */
+    uint64_t message;
+    uint64_t description; /* 0 not known, 1 known to have none, otherwise its number and 2 */
+} wz_tag_look;
+
+/* Makes an engine in `mem`, whatever was there. It waits for WZ_BEGIN, its clock is 0, no tag is in a tier. All that is
+ * handed in beside `mem` is needed for this call alone.
+ *   names, ends  the directory: the names' bytes joined, and for each name the place where it ends
+ *   cycle, period, grace  seconds between rounds, of a turn through tier 2, and that a tag left by tier 1 stays in tier 2
+ *   settings     WZ_SETTING bytes for each name: the deadband's bits (absent is 0); the group and 1, or 0 for none; the
+ *                group's rate in milliseconds, which doesn't count without a group; 0 or, where a description is set, any other
+ *   groups       configured groups, WZ_CONFIGURED bytes each: number, and rate in milliseconds
+ * Refusals, in this order: 100, 1, 2, 3, 4, 11, 12, 13, 14.
+ * Names alike in lower case must have equal settings; this is not checked. */
+uint32_t wz_create(uint8_t *mem, size_t mem_len, const uint8_t *names, size_t names_len, const uint32_t *ends,
+                   size_t ends_len, double cycle, double period, double grace, const uint8_t *settings,
+                   size_t settings_len, const uint8_t *groups, size_t groups_len);
+
+/* Puts a tag into a tier, 1 to 3, or takes it out (0). Refusals, in this order: 100, 21, 22, 23, 24. */
+uint32_t wz_set_tier(uint8_t *mem, size_t mem_len, double clock, uint32_t tag, uint32_t tier);
+
+/* Loads a panel list, as wz_panel writes it: a count byte n, n tag bytes, n tier bytes; makes these tier calls in order.
+ * Refusals, in this order: 100, 21, 22, 51, then at the first bad entry the lowest of 53, 54, 55, then 56. */
+uint32_t wz_load(uint8_t *mem, size_t mem_len, double clock, const uint8_t *list, size_t list_len);
+
+/* Queues a write of a value: its kind and its word. Refusals, in this order: 100, 23, 31, 32, 42. */
+uint32_t wz_write(uint8_t *mem, size_t mem_len, uint32_t tag, uint64_t kind, uint64_t word);
+
+/* Asks for the stop. Steps go on until WZ_STOPPED. Refusal: 100. */
+uint32_t wz_stop(uint8_t *mem, size_t mem_len);
+
+/* One step: takes an answer of the host, and gives the next request or event.
+ *   clock, wall  the clock reading and the wall time of the answer
+ *   kind, number, message, list  the answer; WZ_BEGIN and so on say what each needs. Results are WZ_RESULT bytes each: the
+ *                value, then the error (where there is an error the value doesn't count). Descriptions are WZ_DESCRIPTION
+ *                bytes each: 0 for none, or the number and 1. Of both there may be fewer than asked for, which are then those
+ *                of the first tags, or more: those past the tags are ignored. So is a part of a record at the end.
+ *   out          room for the list that comes back; bytes past it keep their contents
+ * Refusals, in this order: 100, 43 (`out` under WZ_LIST bytes), 21, 22, 41, then 14 (settings) or 42 (results that are
+ * covered). A kind, or an error number with WZ_WRITE_REFUSED, that stands for nothing is 41. */
+wz_reply wz_step(uint8_t *mem, size_t mem_len, double clock, int64_t wall, uint64_t kind, uint64_t number,
+                 uint64_t message, const uint8_t *list, size_t list_len, uint8_t *out, size_t out_len);
+
+/* Looks. They change nothing in the engine, and write only `out`. */
+
+/* The state of the connection, and the last version. Refusal: 100. */
+wz_state_look wz_state(const uint8_t *mem, size_t mem_len);
+
+/* The statistics of the rounds. Refusal: 100. */
+wz_stats_look wz_stats(const uint8_t *mem, size_t mem_len);
+
+/* How many tags are in each tier. Refusal: 100. */
+wz_counts_look wz_tier_counts(const uint8_t *mem, size_t mem_len);
+
+/* The groups: configured ones first, then by first reading. Five cells each into `out`: number; rate in milliseconds;
+ * tags in tier 1 now; 1 where the group has a last period, else 0; the bits of that period, in milliseconds.
+ * Refusals: 100, 43 (`out` under WZ_GROUP_STATS_LIST bytes). */
+wz_list_look wz_group_stats(const uint8_t *mem, size_t mem_len, uint8_t *out, size_t out_len);
+
+/* The table, in order of entry. Two cells each into `out`: tag and tier, 2 for a tag in grace.
+ * Refusals: 100, 43 (`out` under WZ_TABLE_LIST bytes). */
+wz_list_look wz_table(const uint8_t *mem, size_t mem_len, uint8_t *out, size_t out_len);
+
+/* The panel list, into `out`: a count byte n, n tag bytes, n tier bytes, in table order; a tag in grace has tier 2.
+ * `count` is its length, 1 + 2n. Refusals: 100, 43 (`out` under WZ_PANEL_LIST bytes). */
+wz_list_look wz_panel(const uint8_t *mem, size_t mem_len, uint8_t *out, size_t out_len);
+
+/* A tag: its tier, its cached entry, its description. Refusals: 100, 23. */
+wz_tag_look wz_tag(const uint8_t *mem, size_t mem_len, uint32_t tag);
+
+#ifdef __cplusplus
+}
+#endif
+
+#endif
