@@ -4,12 +4,14 @@
 #           src--crates--ciplink-server--src--worker.rs.txt (default: ../shared/docs/src, seen from the repository's top)
 #   OUT     where to build (default: target/oracle in the repository); the program is $OUT/oracle
 #   LEAVES  an archive of the leaves (libleaves.a): the program then has the commands `leaves` and `rounds`
+#   CAPI    an archive of the entry points (libcapi.a): the program then has the commands `port` and `differ`
 set -eu
 here=$(cd "$(dirname "$0")" && pwd)
 top=$(dirname "$here")
 docs=${1:-$top/../shared/docs/src}
 out=${OUT:-$top/target/oracle}
 leaves=${LEAVES:-}
+capi=${CAPI:-}
 pre=src--crates--ciplink-server--src--
 
 src() {
@@ -25,7 +27,9 @@ planner=$(src planner)
 plc=$(src plc)
 config=$(src config)
 rules=$(src rules)
-[ -z "$leaves" ] || [ -f "$leaves" ] || { echo "build.sh: no archive $leaves" >&2; exit 1; }
+for f in "$leaves" "$capi"; do
+    [ -z "$f" ] || [ -f "$f" ] || { echo "build.sh: no archive $f" >&2; exit 1; }
+done
 
 need=
 for p in librust-serde-json-dev librust-indexmap-dev librust-log-dev; do
@@ -86,10 +90,11 @@ put "$out/new" "$tree/src/slices.rs"
 
 put "$here/driver/main.rs" "$tree/src/main.rs"
 put "$here/driver/worker_tests.rs" "$tree/src/worker_tests.rs"
-for f in gen names inputs lists leaves rounds; do
+for f in gen names inputs lists leaves rounds differ; do
     put "$here/driver/$f.rs" "$tree/src/$f.rs"
 done
 put "$here/Cargo.toml" "$tree/Cargo.toml"
+ln -sfn "$top/host" "$tree/wordzike"
 put "$here/ciplink/Cargo.toml" "$tree/ciplink/Cargo.toml"
 put "$here/ciplink/src/lib.rs" "$tree/ciplink/src/lib.rs"
 cat >"$out/new" <<'T2'
@@ -109,6 +114,11 @@ if [ -n "$leaves" ]; then
     cmp -s "$leaves" "$out/lib/libleaves.a" || { cp "$leaves" "$out/lib/libleaves.a"; touch "$tree/src/leaves.rs"; }
     features='--features leaves'
     link='-l static=leaves'
+fi
+if [ -n "$capi" ]; then
+    features="$features --features capi"
+    WORDZIKE_LIB=$(cd "$(dirname "$capi")" && pwd)/$(basename "$capi")
+    export WORDZIKE_LIB
 fi
 
 cd "$tree"

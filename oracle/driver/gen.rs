@@ -2,7 +2,7 @@
 
 use super::*;
 
-const PROFILES: [&str; 8] = ["small", "mid", "full", "calm", "stormy", "edge", "groups", "aimed"];
+pub(super) const PROFILES: [&str; 8] = ["small", "mid", "full", "calm", "stormy", "edge", "groups", "aimed"];
 
 /// Chances are per thousand.
 #[derive(Clone, Copy)]

@@ -13,6 +13,9 @@ use std::io::{BufRead, Write as _};
 use std::panic::{AssertUnwindSafe, catch_unwind, resume_unwind};
 use std::sync::atomic::{AtomicI64, AtomicU64};
 
+#[cfg(feature = "capi")]
+#[path = "differ.rs"]
+mod differ;
 #[path = "gen.rs"]
 mod generate;
 #[path = "inputs.rs"]
@@ -1208,7 +1211,8 @@ const USAGE: &str = "\
 oracle gen SEED N [PROFILE] | replay [--inner] | batch FIRST COUNT N [PROFILE] | cases | bench [TAGS]
 oracle lister | lists SEED [COUNT PROGRAM]
 --single, with the first three: each outcome that fail_writes tells is an event of its own
-built with the leaves' archive also: leaves SEED COUNT | rounds [TAGS] [ROUNDS]";
+built with the leaves' archive also: leaves SEED COUNT | rounds [TAGS] [ROUNDS]
+built with the entry points' archive also: port | differ FIRST COUNT N [PROFILE ...]";
 
 impl PlcWorker {
     /// The oracle's entry, here because this module is private to worker.rs.
@@ -1243,6 +1247,13 @@ impl PlcWorker {
             ["rounds", ref rest @ ..] if known => {
                 let number = |k: usize, otherwise: usize| rest.get(k).map_or(otherwise, |t| num(t));
                 rounds::run(number(0, 120), number(1, 20_000));
+            }
+            #[cfg(feature = "capi")]
+            ["port"] if known => differ::port(),
+            #[cfg(feature = "capi")]
+            ["differ", first, count, n, ref profiles @ ..] if known => {
+                let profiles = if profiles.is_empty() { &generate::PROFILES[..] } else { profiles };
+                differ::run(num(first), num(count), num(n), profiles);
             }
             ["bench", ref rest @ ..] if known => bench(rest.first().map_or(120, |t| num(t))),
             _ => {
