@@ -309,8 +309,18 @@ impl Port<'_> {
 
     fn step(&mut self, clock: f64, now: i64, answer: &Ans) -> Result<Reply, wz::Refusal> {
         use wz::Answer as To;
+        let waited = PHASES[self.phase()].1;
+        let named = match answer {
+            Ans::Read(_) => "read",
+            Ans::Readback(_) => "readback",
+            Ans::Write(_) => "write",
+            _ => waited,
+        };
         let engine = &mut self.engine;
-        let at_read_back = PHASES[usize::from(self.before[8 * PHASE_CELL])].0 == "ReadBack";
+        if named != waited {
+            // the functions have one kind for results, and one for a loss; here another that isn't waited for stands for it
+            return engine.step(clock, now, if waited.is_empty() { To::Taken } else { To::Begin });
+        }
         match answer {
             Ans::Begin => engine.step(clock, now, To::Begin),
             Ans::Connect(ok) => engine.step(clock, now, if *ok { To::Opened } else { To::NotOpened }),
@@ -321,9 +331,6 @@ impl Port<'_> {
                 self.handed = handed;
                 Ok(reply)
             }
-            // the functions have one kind of answer for both; the other one's is taken for another answer
-            Ans::Read(_) if at_read_back => engine.step(clock, now, To::Begin),
-            Ans::Readback(_) if !at_read_back => engine.step(clock, now, To::Begin),
             Ans::Read(Some(results)) | Ans::Readback(Some(results)) => {
                 let results: Vec<_> = results.iter().map(result_of).collect();
                 engine.step(clock, now, To::Results(&results))

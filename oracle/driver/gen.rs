@@ -810,7 +810,8 @@ impl Source for Gen {
             return match self.ended {
                 1..=3 => Some(self.call(host)),
                 4 => Some(format!("answer {} {} taken", hex(clock()), self.wall)),
-                5 => Some("call look all".into()),
+                5 => Some("call stop".into()),
+                6 => Some("call look all".into()),
                 _ => None,
             };
         }

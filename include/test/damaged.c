@@ -1,0 +1,733 @@
+/* Damaged input: damaged SEED COUNT [heap]
+ *
+ * Calls every function COUNT times in all, with random lengths and contents, on two sorts of memory: engines, where a plain
+ * model of document 01's checks says what must be answered, and memory that never was an engine. All that is lent ends or
+ * begins at a page that may not be touched or, with `heap`, is allocated to the byte for valgrind. After each call every
+ * lent byte is compared: nothing may be written on a refusal, and otherwise only the engine and the list that is given.
+ * Prints what was met; exits 1 at the first thing that is wrong. */
+#define _DEFAULT_SOURCE
+#include "../wordzike.h"
+#include "cells.h"
+#include <float.h>
+#include <math.h>
+#include <signal.h>
+#include <stdio.h>
+#include <stdlib.h>
+#include <sys/mman.h>
+#include <unistd.h>
+
+/* ---- random numbers */
+
+static uint64_t seed;
+
+static uint64_t draw(void)
+{
+    uint64_t z = seed += 0x9e3779b97f4a7c15u;
+    z = (z ^ z >> 30) * 0xbf58476d1ce4e5b9u;
+    z = (z ^ z >> 27) * 0x94d049bb133111ebu;
+    return z ^ z >> 31;
+}
+
+static uint64_t below(uint64_t n)
+{
+    return n == 0 ? 0 : draw() % n;
+}
+
+/* Once in n times. */
+static int once(uint64_t n)
+{
+    return below(n) == 0;
+}
+
+/* ---- lent memory */
+
+enum { MEM, OUT, LIST, NAMES, ENDS, SETTINGS, GROUPS, SLOTS };
+enum { ROOM = 40960 };
+
+static struct slot {
+    uint8_t *base; /* all that is compared */
+    size_t room;
+    uint8_t *at; /* what is lent */
+    size_t len;
+    uint8_t before[ROOM];
+} slots[SLOTS];
+static int heap;
+
+static void map_slots(void)
+{
+    size_t page = (size_t)sysconf(_SC_PAGESIZE);
+    int s;
+    for (s = 0; s < SLOTS && !heap; s++) {
+        uint8_t *all = mmap(NULL, ROOM + 2 * page, PROT_NONE, MAP_PRIVATE | MAP_ANONYMOUS, -1, 0);
+        if (all == MAP_FAILED || ROOM % page != 0 || mprotect(all + page, ROOM, PROT_READ | PROT_WRITE) != 0)
+            exit(2);
+        slots[s].base = slots[s].at = all + page;
+        slots[s].room = ROOM;
+        memset(slots[s].base, 0xa5, ROOM);
+    }
+}
+
+/* Lends `len` bytes: at the front, at the end, or between. */
+static uint8_t *lend(int s, size_t len)
+{
+    struct slot *x = &slots[s];
+    x->len = len;
+    if (heap) {
+        free(x->base);
+        x->base = x->at = malloc(len);
+        x->room = len;
+        return x->at;
+    }
+    x->at = x->base + (once(3) ? 0 : once(2) ? ROOM - len : below(ROOM - len + 1));
+    if (s == ENDS)
+        x->at -= (uintptr_t)x->at % 4;
+    return x->at;
+}
+
+/* No pointer is needed where nothing is lent. */
+static uint8_t *lent(int s)
+{
+    return slots[s].len == 0 ? NULL : slots[s].at;
+}
+
+static void keep(void)
+{
+    int s;
+    for (s = 0; s < SLOTS; s++)
+        if (slots[s].room > 0)
+            memcpy(slots[s].before, slots[s].base, slots[s].room);
+}
+
+/* ---- what was met */
+
+enum { CREATE, SET_TIER, LOAD, WRITE, STOP, STEP, STATE, STATS, COUNTS, GROUP_STATS, TABLE, PANEL, TAG, CALLS };
+static const char *const names_of[CALLS] = {"wz_create", "wz_set_tier", "wz_load",        "wz_write",       "wz_stop",
+                                            "wz_step",   "wz_state",    "wz_stats",       "wz_tier_counts", "wz_group_stats",
+                                            "wz_table",  "wz_panel",    "wz_tag"};
+/* The numbers that each may answer. */
+static const int numbers[CALLS][12] = {
+    {100, 1, 2, 3, 4, 11, 12, 13, 14}, {100, 21, 22, 23, 24}, {100, 21, 22, 51, 53, 54, 55, 56},
+    {100, 23, 31, 32, 42},             {100},                 {100, 43, 21, 22, 41, 14, 42},
+    {100},                             {100},                 {100},
+    {100, 43},                         {100, 43},             {100, 43},
+    {100, 23}};
+static uint64_t met[2][CALLS][101]; /* by memory, call and number */
+static uint64_t replies[2][15];
+static uint64_t calls;
+static int real; /* whether the memory is an engine's */
+
+static void wrong(int call, const char *what, uint64_t got, uint64_t want)
+{
+    printf("call %llu, %s on %s: %s, %llu and not %llu\n", (unsigned long long)calls, names_of[call],
+           real ? "an engine" : "other memory", what, (unsigned long long)got, (unsigned long long)want);
+    exit(1);
+}
+
+static void faulted(int sig)
+{
+    static const char text[] = "an invalid access, or a call that does not end\n";
+    (void)sig;
+    if (write(1, text, sizeof text - 1) < 0)
+        _exit(3);
+    _exit(1);
+}
+
+/* Compares all that was lent: `engine` where the engine may be written, and so many bytes of OUT. */
+static void compare(int call, int engine, size_t out)
+{
+    int s;
+    for (s = 0; s < SLOTS; s++) {
+        struct slot *x = &slots[s];
+        size_t front = (size_t)(x->at - x->base), may = s == MEM && engine ? x->len : s == OUT ? out : 0;
+        if (x->room == 0)
+            continue;
+        if (memcmp(x->base, x->before, front) != 0 ||
+            memcmp(x->at + may, x->before + front + may, x->room - front - may) != 0)
+            wrong(call, "a byte was written that may not be, in lent memory", (uint64_t)s, 0);
+    }
+}
+
+/* Counts an answer; `want` is the number that it must have, -1 where that is not known. */
+static void answered(int call, uint64_t code, int want)
+{
+    int k, may = code == 0;
+    for (k = 0; k < 12 && !may; k++)
+        may = code == (uint64_t)numbers[call][k];
+    if (!may)
+        wrong(call, "a number that it does not have", code, 0);
+    if (slots[MEM].len != WZ_MEMORY)
+        want = WZ_NOT_AN_ENGINE;
+    if (want >= 0 && code != (uint64_t)want)
+        wrong(call, "another number", code, (uint64_t)want);
+    if (want < 0 && code == WZ_NOT_AN_ENGINE)
+        wrong(call, "another number", code, 0);
+    met[!real][call][code]++;
+}
+
+/* ---- the model: what the checks need to know of an engine */
+
+static struct {
+    uint32_t count;
+    double clock;
+    int waits;    /* 0 begin, 1 connect, 2 version, 3 results, 4 write, 5 descriptions, 6 wait, 7 taken, 8 nothing */
+    size_t asked; /* tags of the last request */
+    size_t queued;
+} model;
+
+static int clock_number(double clock)
+{
+    if (!(clock >= 0 && clock <= 1e9))
+        return 21;
+    return clock < model.clock ? 22 : 0;
+}
+
+static int setting_ok(const uint8_t *s)
+{
+    double band;
+    memcpy(&band, s, 8);
+    return isfinite(band) && (cell(s, 1) == 0 || (cell(s, 1) <= 16 && cell(s, 2) > 0 && cell(s, 2) >> 32 == 0));
+}
+
+static int settings_ok(const uint8_t *s, size_t len, size_t count)
+{
+    size_t i;
+    for (i = 0; i < len / WZ_SETTING; i++)
+        if (!setting_ok(s + WZ_SETTING * i))
+            return 0;
+    return len == WZ_SETTING * count;
+}
+
+static int groups_ok(const uint8_t *g, size_t len)
+{
+    size_t i;
+    for (i = 0; i < len / WZ_CONFIGURED; i++)
+        if (cell(g, 2 * i) > 15 || cell(g, 2 * i + 1) == 0 || cell(g, 2 * i + 1) >> 32 != 0)
+            return 0;
+    return len % WZ_CONFIGURED == 0 && len / WZ_CONFIGURED <= 16;
+}
+
+static int float_ok(uint64_t kind, uint64_t word)
+{
+    double x;
+    memcpy(&x, &word, 8);
+    return kind != WZ_FLOAT || isfinite(x);
+}
+
+static int results_ok(const uint8_t *r, size_t len)
+{
+    size_t i;
+    for (i = 0; i < len / WZ_RESULT && i < model.asked; i++)
+        if (cell(r, 4 * i + 2) == 0 && !float_ok(cell(r, 4 * i), cell(r, 4 * i + 1)))
+            return 0;
+    return 1;
+}
+
+static int directory_number(const uint8_t *names, size_t len, const uint32_t *ends, size_t count)
+{
+    size_t i, from, end;
+    if (count == 0 || count > WZ_TAGS)
+        return 1;
+    for (i = 0, from = 0; i < count; from = ends[i++])
+        if (ends[i] <= from || ends[i] > len || ends[i] - from > WZ_NAME)
+            return 2;
+    if (from != len)
+        return 2;
+    for (i = 0; i < len; i++)
+        if (names[i] < 33 || names[i] > 126)
+            return 3;
+    for (i = 1, from = 0; i < count; from = ends[i++ - 1]) {
+        size_t old = ends[i - 1] - from, new = (end = ends[i]) - ends[i - 1];
+        int order = memcmp(names + from, names + ends[i - 1], old < new ? old : new);
+        if (order > 0 || (order == 0 && old >= new))
+            return 4;
+    }
+    return 0;
+}
+
+static int options_number(const double *o)
+{
+    if (!(o[0] == 0 || (o[0] >= 0.001 && o[0] <= 3600)))
+        return 11;
+    if (!(o[1] >= 0 && o[1] <= 86400))
+        return 12;
+    return o[2] >= 0 && o[2] <= 86400 ? 0 : 13;
+}
+
+static int panel_number(const uint8_t *p, size_t len)
+{
+    size_t i, k, n;
+    if (len == 0 || len != 1 + 2 * (size_t)p[0])
+        return 51;
+    n = p[0];
+    for (i = 0; i < n; i++) {
+        if (p[1 + i] >= model.count)
+            return 53;
+        for (k = 0; k < i; k++)
+            if (p[1 + k] == p[1 + i])
+                return 54;
+        if (p[1 + n + i] < 1 || p[1 + n + i] > 3)
+            return 55;
+    }
+    return 0;
+}
+
+static int answers(uint64_t kind, uint64_t number)
+{
+    switch (model.waits) {
+    case 0: return kind == WZ_BEGIN;
+    case 1: return kind == WZ_OPENED || kind == WZ_NOT_OPENED;
+    case 2: return kind == WZ_NO_VERSION || kind == WZ_VERSION_IS;
+    case 3: return kind == WZ_RESULTS || kind == WZ_LOST;
+    case 4: return kind == WZ_WRITTEN || kind == WZ_LOST || (kind == WZ_WRITE_REFUSED && number >= 1 && number <= 65538);
+    case 5: return kind == WZ_DESCRIPTIONS || kind == WZ_NOT_DESCRIBED;
+    case 6: return kind == WZ_WAITED;
+    case 7: return kind == WZ_TAKEN;
+    default: return 0;
+    }
+}
+
+static int step_number(double clock, uint64_t kind, uint64_t number)
+{
+    const struct slot *list = &slots[LIST];
+    int n = clock_number(clock);
+    if (slots[OUT].len / WZ_CHANGE < WZ_TAGS)
+        return 43;
+    if (n != 0)
+        return n;
+    if (!answers(kind, number))
+        return 41;
+    if ((kind == WZ_NO_VERSION || kind == WZ_VERSION_IS) && !settings_ok(list->at, list->len, model.count))
+        return 14;
+    return kind == WZ_RESULTS && !results_ok(list->at, list->len) ? 42 : 0;
+}
+
+/* ---- random arguments */
+
+static double a_clock(void)
+{
+    const double strange[] = {NAN, INFINITY, -INFINITY, -1, -0.0, 1000000000.0000001, DBL_MIN, model.clock - 0.5, 1e300};
+    if (once(12))
+        return once(20) ? 1e9 : strange[below(9)];
+    if (once(40)) {
+        uint64_t word = draw();
+        double x;
+        memcpy(&x, &word, 8);
+        return x;
+    }
+    return fmin(1e9, model.clock + (once(2) ? 0 : (double)below(3000) / 1000));
+}
+
+static double an_option(void)
+{
+    const double all[] = {0, 1, 0.001, 0.5, 3600, 86400, 3, 0.0009, 3600.5, 86401, -1, NAN, INFINITY, -0.0};
+    return all[below(once(8) ? 14 : 4)];
+}
+
+static uint64_t a_word(void)
+{
+    const double some[] = {0, -0.0, 1, 10.5, NAN, INFINITY};
+    return once(3) ? draw() : once(2) ? below(20) : bits(some[below(once(3) ? 6 : 4)]);
+}
+
+static void fill(int s)
+{
+    struct slot *x = &slots[s];
+    uint64_t how = below(4), i;
+    for (i = 0; i < x->len; i++)
+        x->at[i] = how == 0 ? (uint8_t)draw() : how == 1 ? 0 : how == 2 ? 0xff : (uint8_t)(i % 8 == 0 ? below(130) : 0);
+}
+
+/* Now and then a list of another length, or with a cell or a byte that is something else. */
+static size_t a_length(size_t len)
+{
+    size_t less = below(50);
+    if (!once(25))
+        return len;
+    return once(2) ? below(ROOM / 4) : once(2) ? len + less : len - (less < len ? less : len);
+}
+
+static void harm(int s)
+{
+    struct slot *x = &slots[s];
+    if (x->len >= 8 && once(25))
+        put_cell(x->at, below(x->len / 8), once(2) ? draw() : below(40));
+    if (x->len > 0 && once(40))
+        x->at[below(x->len)] = (uint8_t)draw();
+}
+
+static void lend_settings(int s, size_t count)
+{
+    const double bands[] = {0, 0.5, 1, -1};
+    size_t i, n = a_length(WZ_SETTING * count);
+    uint8_t *at = lend(s, n);
+    fill(s);
+    for (i = 0; i < n / WZ_SETTING; i++) {
+        put_cell(at, 4 * i, bits(bands[below(4)]));
+        put_cell(at, 4 * i + 1, once(2) ? 0 : 1 + below(16));
+        put_cell(at, 4 * i + 2, 1 + below(3000));
+        put_cell(at, 4 * i + 3, below(2));
+    }
+    harm(s);
+}
+
+static void lend_groups(void)
+{
+    size_t i, n = a_length(WZ_CONFIGURED * (once(9) ? 16 + below(2) : below(4)));
+    uint8_t *at = lend(GROUPS, n);
+    fill(GROUPS);
+    for (i = 0; i < n / WZ_CONFIGURED; i++) {
+        put_cell(at, 2 * i, below(16));
+        put_cell(at, 2 * i + 1, 1 + below(5000));
+    }
+    harm(GROUPS);
+}
+
+/* Rising names: two letters, at times more, at times a bit. */
+static void lend_directory(size_t count)
+{
+    uint8_t text[130 * 6];
+    uint32_t ends[130];
+    size_t i, k, n = 0;
+    for (i = 0; i < count && i < 130; i++) {
+        text[n++] = (uint8_t)('A' + i / 20);
+        text[n++] = (uint8_t)('A' + i % 20 + (once(3) ? 32 : 0) * (i % 20 == 19));
+        for (k = below(3); k > 0; k--)
+            text[n++] = (uint8_t)(33 + below(94));
+        ends[i] = (uint32_t)n;
+    }
+    lend(NAMES, a_length(n));
+    fill(NAMES);
+    memcpy(slots[NAMES].at, text, n < slots[NAMES].len ? n : slots[NAMES].len);
+    lend(ENDS, 4 * i);
+    memcpy(slots[ENDS].at, ends, 4 * i);
+    if (i > 0 && once(20))
+        memcpy(slots[ENDS].at + 4 * below(i), &(uint32_t){(uint32_t)(once(2) ? draw() : below(n + 50))}, 4);
+    if (slots[NAMES].len > 0 && once(20))
+        slots[NAMES].at[below(slots[NAMES].len)] = (uint8_t)draw();
+}
+
+static void lend_results(void)
+{
+    size_t i, n = a_length(WZ_RESULT * model.asked);
+    uint8_t *at = lend(LIST, n);
+    fill(LIST);
+    for (i = 0; i < n / WZ_RESULT; i++) {
+        put_cell(at, 4 * i, below(4));
+        put_cell(at, 4 * i + 1, below(3));
+        put_cell(at, 4 * i + 2, once(4) ? below(9) : 0);
+        put_cell(at, 4 * i + 3, below(3));
+    }
+    if (n >= WZ_RESULT && once(6)) {
+        i = below(n / WZ_RESULT);
+        put_cell(at, 4 * i, WZ_FLOAT);
+        put_cell(at, 4 * i + 1, a_word());
+    }
+    harm(LIST);
+}
+
+static void lend_panel(void)
+{
+    size_t i, n = below(model.count + 1), len = a_length(1 + 2 * n);
+    uint8_t *at = lend(LIST, len);
+    fill(LIST);
+    if (len > 0)
+        at[0] = (uint8_t)n;
+    for (i = 0; i < n && 1 + n + i < len; i++) {
+        at[1 + i] = (uint8_t)i;
+        at[1 + n + i] = (uint8_t)(1 + below(3));
+    }
+    if (len > 0 && once(6))
+        at[below(len)] = (uint8_t)below(once(2) ? 256 : 5);
+}
+
+static void lend_out(size_t room)
+{
+    lend(OUT, once(30) ? (once(2) ? room - 1 : below(room)) : room + (once(3) ? below(100) : 0));
+    fill(OUT);
+}
+
+/* ---- the calls */
+
+static void done(int call, uint64_t code, int want, size_t out)
+{
+    answered(call, code, want);
+    compare(call, code == 0 && call <= STEP, code == 0 ? out : 0);
+    calls++;
+}
+
+/* How many bytes of OUT a list has; one without room for all of it is not written. */
+static size_t listed(uint64_t count, size_t record)
+{
+    return count <= slots[OUT].len / record ? (size_t)count * record : 0;
+}
+
+static void call_create(void)
+{
+    double o[3] = {an_option(), an_option(), an_option()};
+    size_t count = once(20) ? below(125) : 1 + below(9);
+    int want = 0;
+    lend_directory(count);
+    count = slots[ENDS].len / 4;
+    lend_settings(SETTINGS, count);
+    lend_groups();
+    keep();
+    want = directory_number(lent(NAMES), slots[NAMES].len, (const uint32_t *)(void *)lent(ENDS), count);
+    if (want == 0)
+        want = options_number(o);
+    if (want == 0 && !(settings_ok(lent(SETTINGS), slots[SETTINGS].len, count) && groups_ok(lent(GROUPS), slots[GROUPS].len)))
+        want = 14;
+    done(CREATE,
+         wz_create(lent(MEM), slots[MEM].len, lent(NAMES), slots[NAMES].len, (const uint32_t *)(void *)lent(ENDS),
+                   count, o[0], o[1], o[2], lent(SETTINGS), slots[SETTINGS].len, lent(GROUPS), slots[GROUPS].len),
+         want, 0);
+    if (want == 0 && slots[MEM].len == WZ_MEMORY) {
+        memset(&model, 0, sizeof model);
+        model.count = (uint32_t)count;
+        real = 1;
+    }
+}
+
+static void call_set_tier(void)
+{
+    double clock = a_clock();
+    uint32_t tag = (uint32_t)(once(20) ? draw() : below(model.count + once(20)));
+    uint32_t tier = (uint32_t)(once(20) ? draw() : below(once(20) ? 5 : 4));
+    int want = clock_number(clock);
+    want = want != 0 ? want : tag >= model.count ? 23 : tier > 3 ? 24 : 0;
+    keep();
+    done(SET_TIER, wz_set_tier(lent(MEM), slots[MEM].len, clock, tag, tier), real ? want : -1, 0);
+    if (real && want == 0)
+        model.clock = clock;
+}
+
+static void call_load(void)
+{
+    double clock = a_clock();
+    int want = clock_number(clock);
+    wz_counts_look held = wz_tier_counts(lent(MEM), slots[MEM].len);
+    lend_panel();
+    want = want != 0 ? want : panel_number(lent(LIST), slots[LIST].len);
+    if (want == 0 && held.tier1 + held.tier2 + held.tier3 > 0)
+        want = 56;
+    keep();
+    done(LOAD, wz_load(lent(MEM), slots[MEM].len, clock, lent(LIST), slots[LIST].len), real ? want : -1, 0);
+    if (real && want == 0)
+        model.clock = clock;
+}
+
+static void call_write(void)
+{
+    uint32_t tag = (uint32_t)(once(20) ? draw() : below(model.count + once(20)));
+    uint64_t kind = once(20) ? draw() : below(4), word = a_word();
+    int connected = wz_state(lent(MEM), slots[MEM].len).state == WZ_CONNECTED;
+    int want = tag >= model.count ? 23 : !connected ? 31 : model.queued >= WZ_WRITES ? 32 : float_ok(kind, word) ? 0 : 42;
+    keep();
+    done(WRITE, wz_write(lent(MEM), slots[MEM].len, tag, kind, word), real ? want : -1, 0);
+    if (real && want == 0)
+        model.queued++;
+}
+
+static void call_stop(void)
+{
+    keep();
+    done(STOP, wz_stop(lent(MEM), slots[MEM].len), 0, 0);
+}
+
+/* Which fields each kind of reply may have: count 1, tag 2, what 4, value 8, error 16, seconds 32. */
+static const int fields[15] = {0, 0, 0, 1, 2 + 8, 1, 1, 32, 1, 4, 0, 1, 2 + 4 + 8 + 16, 1, 1};
+
+static void check_reply(const wz_reply *r)
+{
+    int has = r->code == 0 && r->kind < 15 ? fields[r->kind] : 0;
+    if ((r->code == 0) != (r->kind >= 1 && r->kind <= 14))
+        wrong(STEP, "a kind that is none", r->kind, 0);
+    if ((!(has & 1) && r->count != 0) || (!(has & 2) && r->tag != 0) || (!(has & 4) && r->what != 0) ||
+        (!(has & 8) && (r->value != 0 || r->word != 0)) || (!(has & 16) && (r->error != 0 || r->message != 0)) ||
+        (!(has & 32) && bits(r->seconds) != 0))
+        wrong(STEP, "a field that this kind does not have", r->kind, 0);
+    replies[!real][r->kind]++;
+}
+
+static void follow(double clock, const wz_reply *r)
+{
+    static const int waits[15] = {8, 1, 2, 3, 4, 3, 5, 6, 7, 7, 7, 7, 7, 7, 8};
+    model.clock = clock;
+    model.waits = waits[r->kind];
+    model.asked = r->count;
+    model.queued -= r->kind == WZ_WRITE ? 1 : r->kind == WZ_FAILED || r->kind == WZ_STOPPED ? r->count : 0;
+}
+
+static void call_step(void)
+{
+    static const uint64_t good[9][2] = {{0, 0}, {1, 1}, {3, 4}, {5, 5}, {7, 8}, {9, 9}, {11, 11}, {12, 12}, {12, 12}};
+    double clock = a_clock();
+    uint64_t kind = good[model.waits][below(2)], number = once(30) ? draw() : 1 + below(4), message = below(5);
+    wz_reply r;
+    int want;
+    if (once(12))
+        kind = once(2) ? below(14) : once(2) ? 2 + 4 * below(3) : draw();
+    if (kind == WZ_NO_VERSION || kind == WZ_VERSION_IS)
+        lend_settings(LIST, model.count);
+    else
+        lend_results();
+    lend_out(WZ_LIST);
+    want = step_number(clock, kind, number);
+    keep();
+    r = wz_step(lent(MEM), slots[MEM].len, clock, (int64_t)draw(), kind, number, message, lent(LIST), slots[LIST].len,
+                lent(OUT), slots[OUT].len);
+    check_reply(&r);
+    done(STEP, r.code, real ? want : -1, listed(r.count, r.kind == WZ_VALUES ? WZ_CHANGE : WZ_LISTED));
+    if (real && want == 0)
+        follow(clock, &r);
+}
+
+static void look(int call, size_t room, size_t record, wz_list_look (*f)(const uint8_t *, size_t, uint8_t *, size_t))
+{
+    wz_list_look r;
+    int want;
+    lend_out(room);
+    want = slots[OUT].len / record < room / record ? 43 : 0;
+    keep();
+    r = f(lent(MEM), slots[MEM].len, lent(OUT), slots[OUT].len);
+    if (r.code != 0 && r.count != 0)
+        wrong(call, "a count with a refusal", r.count, 0);
+    if (real && r.code == 0 && r.count > room / record)
+        wrong(call, "a count above the limit", r.count, room / record);
+    done(call, r.code, want, listed(r.count, record));
+}
+
+static void call_tag(void)
+{
+    uint32_t tag = (uint32_t)(once(9) ? draw() : below(model.count + 2));
+    wz_tag_look r;
+    keep();
+    r = wz_tag(lent(MEM), slots[MEM].len, tag);
+    if (r.code != 0 && (r.tier | r.held | r.kind | r.word | r.t | r.error | r.message | r.description) != 0)
+        wrong(TAG, "a field with a refusal", r.code, 0);
+    done(TAG, r.code, real ? (tag >= model.count ? 23 : 0) : -1, 0);
+}
+
+static void call_look(void)
+{
+    keep();
+    switch (below(7)) {
+    case 0: done(STATE, wz_state(lent(MEM), slots[MEM].len).code, 0, 0); break;
+    case 1: done(STATS, wz_stats(lent(MEM), slots[MEM].len).code, 0, 0); break;
+    case 2: done(COUNTS, wz_tier_counts(lent(MEM), slots[MEM].len).code, 0, 0); break;
+    case 3: look(GROUP_STATS, WZ_GROUP_STATS_LIST, WZ_GROUP_STATS, wz_group_stats); break;
+    case 4: look(TABLE, WZ_TABLE_LIST, WZ_TABLE_ROW, wz_table); break;
+    case 5: look(PANEL, WZ_PANEL_LIST, 1, wz_panel); break;
+    default: call_tag();
+    }
+}
+
+static void any_call(void)
+{
+    uint64_t k = below(100);
+    if (k < 50)
+        call_step();
+    else if (k < 65)
+        call_set_tier();
+    else if (k < 78)
+        call_write();
+    else if (k < 82)
+        call_load();
+    else if (k < 99)
+        call_look();
+    else if (once(3))
+        call_stop();
+}
+
+/* ---- the two sorts of memory */
+
+static uint8_t engine[WZ_MEMORY];
+
+/* An engine, from creation on. */
+static void life(void)
+{
+    int k, more;
+    real = 0;
+    memset(&model, 0, sizeof model);
+    lend(MEM, once(20) ? below(ROOM) : WZ_MEMORY);
+    fill(MEM);
+    call_create();
+    for (k = 0; real && k < 300; k++) {
+        any_call();
+        for (more = once(150) ? 40 : 0; more > 0; more--)
+            call_write();
+        memcpy(engine, slots[MEM].at, WZ_MEMORY);
+        memcpy(lend(MEM, WZ_MEMORY), engine, WZ_MEMORY);
+        if (once(200)) { /* memory of another length */
+            memcpy(lend(MEM, WZ_MEMORY - 1), engine, WZ_MEMORY - 1);
+            call_stop();
+            memcpy(lend(MEM, WZ_MEMORY), engine, WZ_MEMORY);
+        }
+    }
+}
+
+/* Memory that never was an engine, or one with some bytes changed. */
+static void strange(void)
+{
+    int k;
+    uint64_t n;
+    model.count = (uint32_t)below(130);
+    model.waits = (int)below(9);
+    model.asked = below(121);
+    lend(MEM, once(4) ? below(ROOM) : WZ_MEMORY);
+    fill(MEM);
+    if (slots[MEM].len == WZ_MEMORY && once(2)) {
+        memcpy(slots[MEM].at, engine, WZ_MEMORY);
+        for (n = 1 + below(40); n > 0; n--)
+            put_cell(slots[MEM].at, once(2) ? below(32) : below(WZ_MEMORY / 8), once(2) ? draw() : below(130));
+    }
+    real = 0;
+    for (k = 0; k < 60; k++) {
+        model.clock = once(3) ? 0 : 1e9;
+        model.waits = k % 9;
+        if (k / 9 % 2 == 0)
+            call_step(); /* whatever it waits for */
+        else
+            any_call();
+    }
+}
+
+static void print_met(void)
+{
+    int m, c, n;
+    for (m = 0; m < 2; m++)
+        for (c = 0; c < CALLS; c++) {
+            printf("%-12s %-15s accepted %llu", m == 0 ? "engine" : "other memory", names_of[c], (unsigned long long)met[m][c][0]);
+            for (n = 1; n <= 100; n++)
+                if (met[m][c][n] != 0)
+                    printf(", %d: %llu", n, (unsigned long long)met[m][c][n]);
+            putchar('\n');
+        }
+    for (m = 0; m < 2; m++) {
+        printf("%-12s replies by kind:", m == 0 ? "engine" : "other memory");
+        for (n = 1; n < 15; n++)
+            printf(" %d: %llu", n, (unsigned long long)replies[m][n]);
+        putchar('\n');
+    }
+}
+
+int main(int argc, char **argv)
+{
+    uint64_t count;
+    if (argc < 3)
+        return 2;
+    seed = strtoull(argv[1], NULL, 10);
+    count = strtoull(argv[2], NULL, 10);
+    heap = argc > 3;
+    signal(SIGSEGV, faulted);
+    signal(SIGBUS, faulted);
+    signal(SIGALRM, faulted);
+    map_slots();
+    while (calls < count) {
+        alarm(60);
+        life();
+        strange();
+    }
+    print_met();
+    printf("seed %s, %llu calls, nothing wrong\n", argv[1], (unsigned long long)calls);
+    return 0;
+}
