@@ -157,9 +157,8 @@ pub struct Tag {
 #[derive(Clone)]
 pub struct Engine {
     memory: Box<[u8]>,
-    /// The list of an answer, and the one that a step gives.
+    /// The list of the last answer, kept for its room.
     list: Vec<u8>,
-    out: Box<[u8]>,
 }
 
 impl fmt::Debug for Engine {
@@ -189,7 +188,7 @@ impl Engine {
         let mut memory = vec![0; MEMORY].into_boxed_slice();
         let options = [options.cycle, options.period, options.grace];
         Refusal::check(ffi::create(&mut memory, &joined, &ends, options, &list, &configured).into())?;
-        Ok(Engine { memory, list, out: vec![0; LIST].into_boxed_slice() })
+        Ok(Engine { memory, list })
     }
 
     /// Puts a tag into a tier, 1 to 3, or takes it out, with 0. Refused with 21 to 24.
@@ -224,9 +223,10 @@ impl Engine {
     /// ```
     pub fn step(&mut self, clock: f64, wall: i64, answer: Answer<'_>) -> Result<Reply, Refusal> {
         let answer = answer.put(&mut self.list);
-        let reply = ffi::step(&mut self.memory, clock, wall, answer, &self.list, &mut self.out);
+        let mut out = [0; LIST];
+        let reply = ffi::step(&mut self.memory, clock, wall, answer, &self.list, &mut out);
         Refusal::check(reply.code)?;
-        Ok(Reply::of(&reply, &self.out))
+        Ok(Reply::of(&reply, &out))
     }
 
     /// The state of the connection.

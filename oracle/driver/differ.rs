@@ -151,7 +151,9 @@ fn reply_text(reply: &Reply) -> String {
         Reply::Event(Told::Meta) => "event meta".into(),
         Reply::Event(Told::Info(tags)) => format!("event info{}", tags_text(tags)),
         Reply::Event(Told::Outcome(tag, Outcome::Written(v))) => format!("event outcome {tag} ok {}", value_text(*v)),
-        Reply::Event(Told::Outcome(tag, Outcome::Refused(e))) => format!("event outcome {tag} error {}", error_text(*e)),
+        Reply::Event(Told::Outcome(tag, Outcome::Refused(e))) => {
+            format!("event outcome {tag} error {}", error_text(*e))
+        }
         Reply::Event(Told::Outcome(tag, Outcome::Lost)) => format!("event outcome {tag} comm lost"),
         Reply::Event(Told::Failed(tags)) => format!("event failed disconnected{}", tags_text(tags)),
         Reply::Event(Told::Stopped(tags)) => format!("stopped{}", tags_text(tags)),
@@ -298,7 +300,9 @@ impl Port<'_> {
                     self.met.tell(&format!("{name}: a value {:?}", e.quality));
                 }
             }
-            Reply::Event(Told::Outcome(_, Outcome::Written(wz::Value::Null))) => self.met.tell("an outcome ok with null"),
+            Reply::Event(Told::Outcome(_, Outcome::Written(wz::Value::Null))) => {
+                self.met.tell("an outcome ok with null")
+            }
             Reply::Event(Told::Failed(tags) | Told::Stopped(tags)) => {
                 self.met.tell(&format!("{name}: {}", some(tags.len())));
             }
@@ -505,7 +509,9 @@ fn show(text: &str) {
     let lines = shrink(text);
     let (rust, port) = both(&lines);
     if let Some((number, x, y)) = first_difference(&rust, &port) {
-        println!("smallest history, with the Rust's trace; in line {number} the Rust has\n    {x}\nand here it is\n    {y}");
+        println!(
+            "smallest history, with the Rust's trace; in line {number} the Rust has\n    {x}\nand here it is\n    {y}"
+        );
     }
     print!("{rust}");
 }
@@ -533,7 +539,9 @@ pub(super) fn run(first: u64, count: u64, n: u64, profiles: &[&str]) {
             answers += a;
             histories += 1;
             if let Some((number, x, y)) = first_difference(&text, &port_text(&text, &mut met)) {
-                println!("seed {seed} profile {profile} differs in line {number}\n    the Rust: {x}\n    here:     {y}");
+                println!(
+                    "seed {seed} profile {profile} differs in line {number}\n    the Rust: {x}\n    here:     {y}"
+                );
                 here += 1;
                 if differ + here == 1 {
                     show(&text);
