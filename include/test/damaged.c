@@ -404,6 +404,10 @@ static void lend_directory(size_t count)
         memcpy(slots[ENDS].at + 4 * below(i), &(uint32_t){(uint32_t)(once(2) ? draw() : below(n + 50))}, 4);
     if (slots[NAMES].len > 0 && once(20))
         slots[NAMES].at[below(slots[NAMES].len)] = (uint8_t)draw();
+    if (once(30)) {
+        lend(ENDS, 4 * below(1200));
+        fill(ENDS);
+    }
 }
 
 static void lend_results(void)
@@ -624,13 +628,13 @@ static void call_look(void)
 static void any_call(void)
 {
     uint64_t k = below(100);
-    if (k < 50)
+    if (k < 62)
         call_step();
-    else if (k < 65)
+    else if (k < 76)
         call_set_tier();
-    else if (k < 78)
+    else if (k < 80)
         call_write();
-    else if (k < 82)
+    else if (k < 84)
         call_load();
     else if (k < 99)
         call_look();
@@ -653,7 +657,7 @@ static void life(void)
     call_create();
     for (k = 0; real && k < 300; k++) {
         any_call();
-        for (more = once(150) ? 40 : 0; more > 0; more--)
+        for (more = once(400) ? 40 : 0; more > 0; more--)
             call_write();
         memcpy(engine, slots[MEM].at, WZ_MEMORY);
         memcpy(lend(MEM, WZ_MEMORY), engine, WZ_MEMORY);
@@ -675,10 +679,12 @@ static void strange(void)
     model.asked = below(121);
     lend(MEM, once(4) ? below(ROOM) : WZ_MEMORY);
     fill(MEM);
-    if (slots[MEM].len == WZ_MEMORY && once(2)) {
+    if (slots[MEM].len == WZ_MEMORY && !once(4)) {
+        /* an engine, with cells changed in its first part, in its lists, or anywhere */
+        uint64_t parts[3][2] = {{0, 32}, {32, 928}, {0, WZ_MEMORY / 8}}, *part = parts[below(3)];
         memcpy(slots[MEM].at, engine, WZ_MEMORY);
         for (n = 1 + below(40); n > 0; n--)
-            put_cell(slots[MEM].at, once(2) ? below(32) : below(WZ_MEMORY / 8), once(2) ? draw() : below(130));
+            put_cell(slots[MEM].at, part[0] + below(part[1]), once(2) ? draw() : below(130));
     }
     real = 0;
     for (k = 0; k < 60; k++) {
