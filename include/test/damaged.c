@@ -655,7 +655,7 @@ static void life(void)
     lend(MEM, once(20) ? below(ROOM) : WZ_MEMORY);
     fill(MEM);
     call_create();
-    for (k = 0; real && k < 300; k++) {
+    for (k = 0; real && k < 300 && !(model.waits == 8 && once(20)); k++) {
         any_call();
         for (more = once(400) ? 40 : 0; more > 0; more--)
             call_write();

@@ -231,10 +231,14 @@ fn port_text(text: &str, met: &mut Met) -> String {
     port.out
 }
 
+fn phase_in(memory: &[u8]) -> usize {
+    let cell = &memory[8 * PHASE_CELL..8 * PHASE_CELL + 8];
+    u64::from_le_bytes(cell.try_into().expect("eight bytes")) as usize
+}
+
 impl Port<'_> {
     fn phase(&self) -> usize {
-        let cell = &self.engine.memory()[8 * PHASE_CELL..8 * PHASE_CELL + 8];
-        u64::from_le_bytes(cell.try_into().expect("eight bytes")) as usize
+        phase_in(self.engine.memory())
     }
 
     fn say(&mut self, line: &str) {
@@ -304,7 +308,8 @@ impl Port<'_> {
                 self.met.tell("an outcome ok with null")
             }
             Reply::Event(Told::Failed(tags) | Told::Stopped(tags)) => {
-                self.met.tell(&format!("{name}: {}", some(tags.len())));
+                let (from, _) = PHASES[phase_in(&self.before)];
+                self.met.tell(&format!("{name} after {from}: {}", some(tags.len())));
             }
             _ => {}
         }
