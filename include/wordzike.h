@@ -261,6 +261,13 @@ wz_list_look wz_panel(const uint8_t *mem, size_t mem_len, uint8_t *out, size_t o
 /* A tag: its tier, its cached entry, its description. Refusals: 100, 23. */
 wz_tag_look wz_tag(const uint8_t *mem, size_t mem_len, uint32_t tag);
 
+/* Sizes in bytes, asked for: WZ_MEMORY, WZ_LIST, WZ_GROUP_STATS_LIST, WZ_TABLE_LIST, WZ_PANEL_LIST. */
+uint64_t wz_memory_size(void);
+uint64_t wz_list_size(void);
+uint64_t wz_group_stats_size(void);
+uint64_t wz_table_size(void);
+uint64_t wz_panel_size(void);
+
 #ifdef __cplusplus
 }
 #endif

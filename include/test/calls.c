@@ -161,8 +161,18 @@ static void the_end(void)
     IS(wz_tier_counts(mem, sizeof mem).tier3 == 1);
 }
 
+static void sizes(void)
+{
+    IS(wz_memory_size() == WZ_MEMORY);
+    IS(wz_list_size() == WZ_LIST);
+    IS(wz_group_stats_size() == WZ_GROUP_STATS_LIST);
+    IS(wz_table_size() == WZ_TABLE_LIST);
+    IS(wz_panel_size() == WZ_PANEL_LIST);
+}
+
 int main(void)
 {
+    sizes();
     IS(create() == 0);
     connected();
     first_round();
