@@ -17,4 +17,10 @@ pub mod ContractLaws
 pub mod NamedLaws
 pub mod ClaimLaws
 pub mod OnceLaws
+pub mod RunLaws
+pub mod OneLaws
+pub mod PlainRuns
+pub mod LoadRuns
+pub mod StepRuns
+pub mod PossibleLaws
 mod Example

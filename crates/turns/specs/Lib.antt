@@ -4,3 +4,4 @@ pub mod Calls
 pub mod Contracts
 pub mod Demand
 pub mod Once
+pub mod Typed
