@@ -7,11 +7,12 @@ use lib.Ieee as ieee-lib
 use lib.IntN.{pos}
 use lib.ListN.{replicate}
 use Rattle.ieee.specs.Round.{float}
-use Rattle.capi.specs.Creation.{Setup, creationCheck, freshWorker}
+use Rattle.capi.specs.Creation.{creationCheck, freshWorker}
 use Rattle.histories.specs.Events.{BoundaryRound, boundaryRounds}
 use Rattle.histories.specs.Histories.{atEach, answers, trace}
 use Rattle.turns.specs.Calls.{Call, tier, steps, write, lookState, lookPanel, Answer, numberIs, told, stateIs, statsAre, countsAre, listIs, tagIs, answer, after}
 use Rattle.turns.specs.Demand.{roundIn, event}
+use Rattle.turns.proofs.Fresh.{setup}
 use Rattle.lists.specs.Keep as lists-Keep
 use Rattle.lists.specs.Slices as lists-Slices
 use Rattle.lists.specs.Sort as lists-Sort
@@ -65,21 +66,12 @@ use Rattle.capi.specs.Memory as capi-Memory
 use Rattle.capi.specs.Calls as capi-Calls
 use Rattle.capi.specs.Creation as capi-Creation
 
-abbrev setup : Setup
-setup = record {
-  names = 65 ∷ 66 ∷ 67 ∷ [];
-  ends = 1 ∷ 2 ∷ 3 ∷ [];
-  options = record { cycle = float 1; period = float 2; grace = float 0 };
-  settings = replicate 96 0;
-  groups = [];
-}
-
 -- a step at the clock reading n with an answer of this kind
-abbrev stepAt : ℕ → ℕ → Call
+abbrev pub stepAt : ℕ → ℕ → Call
 stepAt n kind = steps (float n) (pos 0) kind 7 0 (replicate 96 0) (replicate 6720 0)
 
 -- three tags in tier 2, a connect, and a round; then looks, a write, a refused tier call, a lost connection, a new connect, and a round
-abbrev someCalls : List Call
+abbrev pub someCalls : List Call
 someCalls =
     tier (float 0) 0 2 ∷ tier (float 0) 1 2 ∷ tier (float 0) 2 2
     ∷ stepAt 0 0 ∷ stepAt 0 1 ∷ stepAt 0 4 ∷ stepAt 0 12

@@ -1,5 +1,8 @@
--- `ClaimLaws`: demand 3 holds. `OnceLaws`: a step needs no second round. `Said`: what the contracts of the entry points say. `Example`: a turn, computed.
--- The others lead there: what keeps the tiers (`KeepLaws`, `StillLaws`, `StepLaws`), what a round does (`RoundLaws`), what every call keeps (`SoundLaws`, `CallLaws`).
+-- `ClaimLaws`: demand 3 holds. `PossibleLaws`: every list of calls has a history. `OnceLaws`: a step needs no second round. `Example`: a turn, computed; `Exists`:
+-- its calls have a history from a memory that creation leaves (`Fresh`), and demand 3 holds of it. `Said`, `CodeMeets`: what the contracts of the entry points say,
+-- and that the code meets them.
+-- The others lead there: what keeps the tiers (`KeepLaws`, `StillLaws`, `StepLaws`), what a round does (`RoundLaws`), what every call keeps (`SoundLaws`, `CallLaws`),
+-- and from a function's theorem to a result that its contract allows (`RunLaws`, `OneLaws`, `PlainRuns`, `LoadRuns`, `StepRuns`).
 pub mod TierLaws
 pub mod InsideLaws
 pub mod TickLaws
@@ -23,4 +26,6 @@ pub mod PlainRuns
 pub mod LoadRuns
 pub mod StepRuns
 pub mod PossibleLaws
+mod Fresh
 mod Example
+mod Exists

@@ -24,9 +24,11 @@ use Rattle.capi.proofs.calls.wz_stop.Met as stop
 use Rattle.turns.proofs.OneLaws.{one-has}
 
 module _ (xs : List ℕ) (f : AllFit w8 xs) (room : Room u8 (length xs)) where
+  -- a result that P allows
   abbrev Has : (ℕ → List ℕ → Type 0) → Type 0
   Has P = ∥ ((r : ℕ) × (new : List ℕ) × P r new × AllFit w8 new) ∥₁
 
+  -- a tier call
   pub tier-has : (clock : Float) (tag to : ℕ) → fits binary64 clock ≡ true → tag < 2 ^ 32 → to < 2 ^ 32
       → Has (λ r new. Called xs new r (tierCheck (workerIn xs) clock tag to) (tiered (workerIn xs) clock tag to))
   tier-has clock tag to c t k =
@@ -37,6 +39,7 @@ module _ (xs : List ℕ) (f : AllFit w8 xs) (room : Room u8 (length xs)) where
       (λ r new. Called xs new r (tierCheck (workerIn xs) clock tag to) (tiered (workerIn xs) clock tag to)) (λ κs r new. refl)
       f _ (tier.met Closed.𝓤 Closed.H Closed.model ghost₀ (real Closed.𝓤 Closed.H Closed.model))
 
+  -- a write
   pub write-has : (tag kind word : ℕ) → tag < 2 ^ 32 → kind < 2 ^ 64 → word < 2 ^ 64
       → Has (λ r new. Called xs new r (writeCheck (workerIn xs) tag (valueFrom kind word)) (wrote (workerIn xs) tag (valueFrom kind word)))
   write-has tag kind word t k w =
@@ -47,6 +50,7 @@ module _ (xs : List ℕ) (f : AllFit w8 xs) (room : Room u8 (length xs)) where
       (λ r new. Called xs new r (writeCheck (workerIn xs) tag (valueFrom kind word)) (wrote (workerIn xs) tag (valueFrom kind word))) (λ κs r new. refl)
       f _ (write.met Closed.𝓤 Closed.H Closed.model ghost₀ (real Closed.𝓤 Closed.H Closed.model))
 
+  -- a stop
   pub stop-has : Has (λ r new. Called xs new r 0 (halted (workerIn xs)))
   stop-has =
       one-has [] tt (λ κs a old r new. Called old new r 0 (halted (workerIn old))) (λ κs. tt) (λ κs. tt) (λ κs. tt) (λ κs. tt) xs room

@@ -1,8 +1,8 @@
 -- Every list of calls has a history: each call has a result that its contract allows, since the code meets its contract.
-use mathlib.Core.Path.{_≡_, refl, ap, sym, _∙_, subst}
+use mathlib.Core.Path.{_≡_, refl, ap, sym, subst}
 use mathlib.Core.Logic.{∥∥₁-prop, ∥∥₁-elim, ∥∥₁-map}
 use mathlib.Core.List.{List, [], _∷_}
-use Prim.Native.Nat.{ℕ, _<_, _^_, _*_}
+use Prim.Native.Nat.{ℕ, _<_, _^_}
 use native.Mathlib.Nat.{mul-one}
 use native.Mathlib.Omega.{arith}
 use lib.ListN.{length}
@@ -12,28 +12,25 @@ use denote.Builtin.{u8}
 use denote.Ref.{RefT}
 use denote.Slice.{Room}
 use Rattle.histories.specs.Events.{Each}
-use Rattle.histories.specs.Histories.{Did, calls, Happened}
-use Rattle.worker.specs.declared.reply.Reply.{Reply}
+use Rattle.histories.specs.Histories.{Happened}
 use Rattle.lent.specs.Lent.{records}
 use Rattle.board.specs.Board.{rowCells}
-use Rattle.words.specs.Value.{valueFrom}
-use Rattle.capi.specs.Memory.{workerIn, Called}
+use Rattle.capi.specs.Memory.{workerIn}
 use Rattle.capi.specs.Looks.{stateLook, statsLook, countsLook, listed, leftIn, groupCells, groupCount, groupCheck, tableCount, tableCheck, panelBytes, panelCount, panelCode, panelLeft, tagLook}
 use Rattle.turns.specs.Calls.{Call, tier, load, steps, write, stop, lookState, lookStats, lookCounts, lookGroups, lookTable, lookPanel, lookTag}
 use Rattle.turns.specs.Calls.{Answer, numberIs, told, stateIs, statsAre, countsAre, listIs, tagIs}
-use Rattle.turns.specs.Contracts.{Asked, Learnt}
-use Rattle.turns.specs.Demand.{History}
+use Rattle.turns.specs.Contracts.{Learnt}
 use Rattle.turns.specs.Typed.{Lendable, Typed, EveryList}
 use Rattle.turns.proofs.PlainRuns.{tier-has, write-has, stop-has}
 use Rattle.turns.proofs.LoadRuns.{load-has}
-use Rattle.turns.proofs.StepRuns.{Numbers, step-has}
+use Rattle.turns.proofs.StepRuns.{step-has}
 
 -- a lendable list has room
 has-room : (n : ℕ) → n < 2 ^ 63 → Room u8 n
 has-room n h = (omega arith, subst (λ (k : ℕ). k < 2 ^ 63) (sym (mul-one n)) h)
 
 -- any reference to these bytes
-abbrev ref : List ℕ → RefT (List ℕ)
+abbrev pub ref : List ℕ → RefT (List ℕ)
 ref bs = record { ptr = (0, 0); name = 0; now = bs }
 
 -- A call on this memory has an answer, and leaves a memory, that its contract allows.

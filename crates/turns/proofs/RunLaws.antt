@@ -9,7 +9,7 @@ use lib.ListN.{length}
 use mir.Syntax.{named, w8, tyInt}
 use mir.Val.{Val, vint}
 use base.Logic.{SProp, ent, sep, ex, emp, emp∗, id⊢, via, comm∗, assoc∗, assoc′, monoL, monoR, fst∗, snd∗, exI}
-use base.Fml.{GName, Fml, ftrue, fat, flft, flent, feq, fsep}
+use base.Fml.{GName, Fml, fat, flft, flent, feq, fsep}
 use prog.Memory.{Memory}
 use prog.Wp.{Heap, run}
 use prog.Model.{Model, AllFit}
@@ -57,24 +57,28 @@ module _ {M : Type 1} (𝓤 : URA M) (H : Heap 𝓤) (𝓜 : Model 𝓤 H) (A : 
       ∥∥₁-map (sat-fact 𝓤 H 𝓜 (r .2) (P (y .0) ∗ F) (Good (y .0))
       (via 𝓤 (P (y .0) ∗ F) (snd∗ 𝓤 (𝓜 .mem (r .2)) (P (y .0) ∗ F)) (via 𝓤 (P (y .0)) (fst∗ 𝓤 (P (y .0)) F) (good (y .0)))) (y .1)) (λ g. (y .0, g)))))
 
+  -- with nothing beside it
   pub with-emp : (P : SProp 𝓤) → ent 𝓤 P (P ∗ emp 𝓤)
   with-emp P = via 𝓤 (emp 𝓤 ∗ P) (emp∗ 𝓤 P) (comm∗ 𝓤 (emp 𝓤) P)
 
   -- ---- bytes in memory, and slices of them
 
   module _ (b : ℕ) where
+    -- bytes in memory are the elements of a slice to write
     to-cells : (ys : List ℕ) (i : ℕ) → ent 𝓤 (run 𝓤 H fullShare w8 b i ys) (sem 𝓤 H A (cells (mem u8) ys b i))
     to-cells [] i = id⊢ 𝓤 (emp 𝓤)
     to-cells (y ∷ ys) i =
         qed W (‵ (fat fullShare (tyInt w8) b i (vint w8 y)) ∷ raw (run 𝓤 H fullShare w8 b (i + 1) ys) ∷ []) ∵
         use1 W (‵ (partAt u8 fullShare y b i)) (uint-in 𝓤 H A W fullShare w8 y b i) $ frame ! $ by ! (to-cells ys (i + 1))
 
+    -- and of a slice to read
     to-parts : (ys : List ℕ) (i : ℕ) → ent 𝓤 (run 𝓤 H fullShare w8 b i ys) (sem 𝓤 H A (parts (mem u8) (shares u8) fullShare ys b i))
     to-parts [] i = id⊢ 𝓤 (emp 𝓤)
     to-parts (y ∷ ys) i =
         qed W (‵ (fat fullShare (tyInt w8) b i (vint w8 y)) ∷ raw (run 𝓤 H fullShare w8 b (i + 1) ys) ∷ []) ∵
         use1 W (‵ (partAt u8 fullShare y b i)) (uint-in 𝓤 H A W fullShare w8 y b i) $ frame ! $ by ! (to-parts ys (i + 1))
 
+    -- and back
     from-cells : (ys : List ℕ) (i : ℕ) → ent 𝓤 (sem 𝓤 H A (cells (mem u8) ys b i)) (run 𝓤 H fullShare w8 b i ys)
     from-cells [] i = id⊢ 𝓤 (emp 𝓤)
     from-cells (y ∷ ys) i =
@@ -93,6 +97,7 @@ module _ {M : Type 1} (𝓤 : URA M) (H : Heap 𝓤) (𝓜 : Model 𝓤 H) (A : 
     behind i [] = i
     behind i (y ∷ ys) = behind (i + 1) ys
 
+    -- bytes behind bytes
     pub run-apart : (ys zs : List ℕ) (i : ℕ) → ent 𝓤 (run 𝓤 H fullShare w8 b i (ys ++ zs)) (run 𝓤 H fullShare w8 b i ys ∗ run 𝓤 H fullShare w8 b (behind i ys) zs)
     unfolding behind
     run-apart [] zs i = emp∗ 𝓤 (run 𝓤 H fullShare w8 b i zs)
@@ -125,6 +130,7 @@ module _ {M : Type 1} (𝓤 : URA M) (H : Heap 𝓤) (𝓜 : Model 𝓤 H) (A : 
       abbrev pub Left : R × Z → SProp 𝓤
       Left y = run 𝓤 H fullShare w8 b o (first (y .1)) ∗ fact 𝓤 (Q (y .0) (y .1))
 
+      -- the lifetime ends, and the lender has the bytes again
       pub taken-back : ent 𝓤 (Given-back ∗ (A .lent (α ∷ []) (Held u8 (length xs) b o δ) ∗ Aside)) (H .⇛ (ex 𝓤 Left))
       taken-back =
           qed W (raw Given-back ∷ ‵ (flent (α ∷ []) (Held u8 (length xs) b o δ)) ∷ raw Aside ∷ []) ∵ updating ! $
@@ -135,6 +141,7 @@ module _ {M : Type 1} (𝓤 : URA M) (H : Heap 𝓤) (𝓜 : Model 𝓤 H) (A : 
           use3 W (later (‵ (Arr (mem u8) (length xs) .lies (first (see l)) b o))) (slice-back 𝓤 H A W u8 (α ∷ []) δ (first (see l)) (length xs) b o) $ await ! tt $ fsplit ! $ move ! (1 ∷ []) $ at-once ! $
           suffices ! (Left (r, see l)) (exI 𝓤 Left (r, see l)) $ says ! e $ keep ! (0 ∷ []) $ by ! (from-cells (first (see l)) o))))
 
+    -- what holds of them holds, and they are bytes
     pub good-left : (o : ℕ) (ys : List ℕ) (φ : Type 0) → ent 𝓤 (run 𝓤 H fullShare w8 b o ys ∗ fact 𝓤 φ) (fact 𝓤 (φ × AllFit w8 ys))
     good-left o ys φ =
         qed W (raw (run 𝓤 H fullShare w8 b o ys) ∷ raw (fact 𝓤 φ) ∷ []) ∵ move ! (1 ∷ []) $ heard ! φ (λ e.

@@ -11,8 +11,8 @@ use lib.IntN.{ℤ}
 use lib.ListN.{length}
 use mir.Syntax.{named, w8, w64}
 use mir.Val.{Val, vint, vfloat, ofZ}
-use base.Logic.{SProp, ent, sep, ex, emp, id⊢, via, monoL, monoR, exI}
-use base.Fml.{GName, Fml, flent}
+use base.Logic.{SProp, ent, sep, ex, emp, via, monoR, exI}
+use base.Fml.{GName, flent}
 use prog.Memory.{Memory}
 use prog.Wp.{Heap, run}
 use prog.Model.{Model, AllFit}
@@ -25,17 +25,16 @@ use types.Share.{arr-parts}
 use types.Tokens.{lft-new}
 use contract.Lifetimes.{Lfts, Shares}
 use contract.Monad.{fact}
-use contract.Running.{Running, GhostRules, givenOf, real}
+use contract.Running.{Running, givenOf, real}
 use contract.BorrowModel.{ghost₀}
 use contract.Adequate.{Satisfies, start-satisfies, sat-weaken}
-use denote.Builtin.{u8, u32, u64, i64, f64, SliceRefOf, SliceRefMutOf}
+use denote.Builtin.{u8, u64, i64, f64, SliceRefOf, SliceRefMutOf}
 use denote.Exit as Exit
 use denote.Lend.{Held}
 use denote.Memory.{shares}
-use denote.Ref.{RefT, now}
-use denote.RattleType.{owns}
+use denote.Ref.{now}
 use denote.Shadow.{pureI}
-use denote.Signature.{Signature, Slot, plain, typesAt}
+use denote.Signature.{Signature, Slot, plain}
 use denote.Slice.{sliceVal, MutSlice, ShrSlice, Room}
 use denote.Steps.{nothing}
 use denote.Triple.Entry.{onEntry, Args, Vals}
@@ -172,6 +171,7 @@ module _ {M : Type 1} (𝓤 : URA M) (H : Heap 𝓤) (𝓜 : Model 𝓤 H) (A : 
   abbrev Start : SProp 𝓤
   Start = sep 𝓤 (run 𝓤 H fullShare w8 0 0 xs) (run 𝓤 H fullShare w8 1 0 (list ++ out))
 
+  -- the memory and both lists are lent
   lends : ent 𝓤 Start (H .⇛ (ex 𝓤 (λ (x : X). sep 𝓤 (Aside x) (Asked x))))
   lends =
       qed W (raw (run 𝓤 H fullShare w8 0 0 xs) ∷ raw (run 𝓤 H fullShare w8 1 0 (list ++ out)) ∷ []) ∵ updating ! $ move ! (1 ∷ []) $
@@ -206,6 +206,7 @@ module _ {M : Type 1} (𝓤 : URA M) (H : Heap 𝓤) (𝓜 : Model 𝓤 H) (A : 
   abbrev L : Type 0
   L = List ℕ × (Unit {0} × (Unit {0} × (Unit {0} × (Unit {0} × (Unit {0} × (Unit {0} × (List ℕ × Unit {0})))))))
 
+  -- the memory is taken back
   takes : (x : X) (v : Val) → ent 𝓤 (sep 𝓤 (tripleOf 𝓤 H A S (spec 𝓤 H A) .post (bound x) v) (Aside x))
       (H .⇛ (ex 𝓤 (λ (y : Reply × Z). sep 𝓤 (run 𝓤 H fullShare w8 0 0 (y .1 .0)) (fact 𝓤 (Says xs n list out (y .0) (y .1 .0) (y .1 .1))))))
   takes x v =
@@ -213,6 +214,7 @@ module _ {M : Type 1} (𝓤 : URA M) (H : Heap 𝓤) (𝓜 : Model 𝓤 H) (A : 
       (sep 𝓤 (A .lft (x .1 .0 .0 ∷ []) fullShare) (sep 𝓤 (A .lft (x .1 .1 .0 ∷ []) fullShare) (emp 𝓤))) (Lists x)
       (λ l. lastsOf (κs x) others (ks .1) (args x .1) (l .1)) (λ r z. Says xs n list out r (z .0) (z .1)) (x .0 .0) (x .0 .1)
 
+  -- so there is a result, in every model
   result : (𝓡 : Running 𝓤 H 𝓜) (ρ : Routine) → Meets 𝓤 H A S (𝓡 .run ρ) (spec 𝓤 H A) → (σ : Memory) → Satisfies 𝓤 H 𝓜 σ (sep 𝓤 Start (emp 𝓤))
       → ∥ ((y : Reply × Z) × (Says xs n list out (y .0) (y .1 .0) (y .1 .1) × AllFit w8 (y .1 .0))) ∥₁
   result 𝓡 ρ met σ s =
@@ -220,11 +222,12 @@ module _ {M : Type 1} (𝓤 : URA M) (H : Heap 𝓤) (𝓜 : Model 𝓤 H) (A : 
       (λ y. sep 𝓤 (run 𝓤 H fullShare w8 0 0 (y .1 .0)) (fact 𝓤 (Says xs n list out (y .0) (y .1 .0) (y .1 .1)))) takes
       (λ y. Says xs n list out (y .0) (y .1 .0) (y .1 .1) × AllFit w8 (y .1 .0)) (λ y. good-left 𝓤 H 𝓜 A W 0 0 (y .1 .0) (Says xs n list out (y .0) (y .1 .0) (y .1 .1))) σ (emp 𝓤) s
 
--- bytes behind bytes
-all-fit : (ys zs : List ℕ) → AllFit w8 ys → AllFit w8 zs → AllFit w8 (ys ++ zs)
+-- bytes behind bytes are bytes
+pub all-fit : (ys zs : List ℕ) → AllFit w8 ys → AllFit w8 zs → AllFit w8 (ys ++ zs)
 all-fit [] zs f g = g
 all-fit (y ∷ ys) zs f g = (f .0, all-fit ys zs (f .1) g)
 
+-- at the closed model, from a memory that holds the bytes
 pub step-has : (xs : List ℕ) → AllFit w8 xs → Room u8 (length xs) → (n : Numbers) → InRange n
     → (list : List ℕ) → AllFit w8 list → Room u8 (length list) → (out : List ℕ) → AllFit w8 out → Room u8 (length out)
     → ∥ ((r : Reply) × (new : List ℕ) × (out' : List ℕ) × Says xs n list out r new out' × AllFit w8 new) ∥₁

@@ -1,5 +1,5 @@
 -- Demand 3. `Demand`: the claim about lists of calls. `Calls`: what the rules make of each call. `Contracts`: the contracts of the entry points, by call.
--- `Once`: a step needs no second round.
+-- `Once`: a step needs no second round. `Typed`: the arguments that a host can pass, and that every list of such calls has a history.
 pub mod Calls
 pub mod Contracts
 pub mod Demand
