@@ -19,7 +19,7 @@ fn creation_check<'a>(
 ) -> u32
     ensures { λ r. ⌜ r ≡ creationCheck (record { names = now (names .entry); ends = now (ends .entry); options = o; settings = now (settings .entry); groups = now (groups .entry) }) ⌝ }
 {
-    let n = names::directory::check_directory(names, ends);
+    let n = directory::check_in(names, ends);
     if n != 0 {
         return n as u32;
     }

@@ -108,7 +108,7 @@ pub fn begin<'a>(
     }
     let n = &buffer[0..used];
     let e = &ends[0..count];
-    if names::directory::check_directory(n, e) != 0 {
+    if directory::check_in(n, e) != 0 {
         return Next::End;
     }
     ranks::fill_keys(n, e, keys);
