@@ -1,0 +1,2 @@
+-- What a lent run of records holds. Definitions only.
+pub mod Run
