@@ -1,0 +1,2 @@
+-- Laws on changes.
+pub mod TakeLaws

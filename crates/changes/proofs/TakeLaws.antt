@@ -1,0 +1,37 @@
+-- The first changes of a list, one after the other.
+use mathlib.Core.Path.{_≡_, refl, ap, _∙_}
+use mathlib.Core.List.{List, [], _∷_, _++_}
+use Prim.Native.Nat.{ℕ, zero, suc, _+_, _*_, _%_, min}
+use native.Mathlib.Numerals.{add-one}
+use native.Mathlib.Omega.{arith}
+use lib.ListN.{length, getD, take, length-append}
+use lib.Seq.{take-all}
+use Rattle.memory.specs.Cells.{cellsIn}
+use Rattle.names.specs.Directory.{maxNames}
+use Rattle.words.specs.Entry.{entryFrom}
+use Rattle.changes.specs.declared.Change.{Change}
+use Rattle.changes.specs.Changes.{changeIn, changesFrom, told}
+
+-- one more
+pub changes-next : (cells : List ℕ) (n : ℕ) → changesFrom cells (n + 1) ≡ changesFrom cells n ++ (changeIn cells n ∷ [])
+unfolding changesFrom
+changes-next cells n = ap (changesFrom cells) (add-one n)
+
+pub length-changes : (cells : List ℕ) (n : ℕ) → length (changesFrom cells n) ≡ n
+unfolding changesFrom
+length-changes cells zero = refl
+length-changes cells (suc n) = length-append (changesFrom cells n) (changeIn cells n ∷ []) ∙ ap (λ (m : ℕ). m + 1) (length-changes cells n) ∙ add-one n
+
+-- the change that seven cells read make
+pub change-read : (cells : List ℕ) (i tag held kind word t error message : ℕ)
+    → tag ≡ getD cells (7 * i) 0 → held ≡ getD cells (7 * i + 1) 0 → kind ≡ getD cells (7 * i + 2) 0 → word ≡ getD cells (7 * i + 3) 0
+    → t ≡ getD cells (7 * i + 4) 0 → error ≡ getD cells (7 * i + 5) 0 → message ≡ getD cells (7 * i + 6) 0
+    → _≡_ {A = Change} (record { tag = tag % 65536; entry = entryFrom (record { held = held; kind = kind; word = word; t = t; error = error; message = message }) }) (changeIn cells i)
+unfolding changeIn
+change-read cells i tag held kind word t error message a b c d e f g =
+    let at : (j k : ℕ) → j ≡ k → getD cells j 0 ≡ getD cells k 0 = λ j k p. ap (λ (m : ℕ). getD cells m 0) p in
+    rw (a, b, c ∙ at (7 * i + 2) (7 * i + 1 + 1) (omega arith), d ∙ at (7 * i + 3) (7 * i + 1 + 2) (omega arith), e ∙ at (7 * i + 4) (7 * i + 1 + 3) (omega arith), f ∙ at (7 * i + 5) (7 * i + 1 + 4) (omega arith), g ∙ at (7 * i + 6) (7 * i + 1 + 5) (omega arith))
+
+-- all of them, as the first of them
+pub told-whole : (list : List ℕ) (n : ℕ) → take (min n maxNames) (told list n) ≡ told list n
+told-whole list n = take-all (min n maxNames) (told list n) (omega (arith, length-changes (cellsIn list) (min n maxNames)))

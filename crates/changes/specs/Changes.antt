@@ -1,0 +1,35 @@
+-- The changes that a list of cells holds, seven cells each, as `lent` writes them.
+use mathlib.Core.List.{List, [], _∷_, _++_}
+use Prim.Native.Nat.{ℕ, zero, suc, _+_, _*_, _%_, min}
+use lib.IntN.{pos}
+use lib.ListN.{getD}
+use Rattle.values.specs.declared.value.Value.the-variants.{Null}
+use Rattle.values.specs.declared.error.Error.the-variants.{None}
+use Rattle.values.specs.declared.entry.Quality.the-variants.{Good}
+use Rattle.values.specs.declared.entry.Entry.{Entry}
+use Rattle.words.specs.Entry.{entryFrom}
+use Rattle.memory.specs.Cells.{cellsIn}
+use Rattle.names.specs.Directory.{maxNames}
+use Rattle.table.specs.Row.{entryWordsAt}
+use Rattle.changes.specs.declared.Change.{Change}
+
+-- the entry of six cells of 0
+abbrev pub noEntry : Entry
+noEntry = record { value = Null; quality = Good; t = pos 0; error = None }
+
+-- a change that is not there
+abbrev pub noChange : Change
+noChange = record { tag = 0; entry = noEntry }
+
+-- change i: the tag in cell 7i, and the entry whose words the six cells after it are
+unfoldable pub changeIn : List ℕ → ℕ → Change
+changeIn cells i = record { tag = getD cells (7 * i) 0 % 65536; entry = entryFrom (entryWordsAt cells (7 * i + 1)) }
+
+-- the first n changes
+unfoldable pub changesFrom : List ℕ → ℕ → List Change
+changesFrom cells zero = []
+changesFrom cells (suc n) = changesFrom cells n ++ (changeIn cells n ∷ [])
+
+-- the changes of a values event that has n, from the bytes of its list; there are never more than tags
+abbrev pub told : List ℕ → ℕ → List Change
+told list n = changesFrom (cellsIn list) (min n maxNames)

@@ -1,0 +1,2 @@
+-- Changes as records. Definitions only.
+pub mod Changes
