@@ -1,2 +1,4 @@
 -- Laws on changes.
 pub mod TakeLaws
+pub mod FitLaws
+pub mod ToldLaws
