@@ -1,17 +1,16 @@
 -- Entries that the machine can hold: their words are of 64 bits, and hold them. The entries of a table in memory are such.
-use mathlib.Core.Path.{_≡_, refl, ap, sym, subst}
+use mathlib.Core.Path.{_≡_, refl, ap}
 use mathlib.Core.Bool.{Bool, true, false, cond}
-use mathlib.Core.List.{List, [], _∷_}
-use Prim.Native.Nat.{ℕ, _+_, _-_, _*_, _/_, _%_, _≤_, _<_, _^_}
+use mathlib.Core.List.{List}
+use Prim.Native.Nat.{ℕ, _+_, _-_, _*_, _/_, _%_, _<_, _^_}
 use native.Mathlib.Nat.{mod-lt}
 use native.Mathlib.Omega.{arith}
 use lib.Dec.{T, eqb, ltb}
-use lib.Ieee.{binary64, fits, ofBits, toBits}
+use lib.Ieee.{binary64, fits, ofBits}
 use lib.Ieee.Bits.{ofBits-toBits, toBits-lt, ofBits-fits}
-use lib.IntN.{ℤ}
 use lib.ListN.{length, getD}
 use borrow.Author.Tests.{ltb-true, ltb-false}
-use mir.Val.{Fits, SFits, ofZ, toZ}
+use mir.Val.{SFits, toZ}
 use mir.Syntax.{w64}
 use mir.Facts.{toZ-ofZ, sfits-toZ, fits-ofZ}
 use Rattle.lists.specs.Keep.{Below}
@@ -30,7 +29,7 @@ use Rattle.values.specs.declared.entry.Held.{Held}
 use Rattle.values.specs.declared.entry.Held.the-variants.{None as Nothing, Is as Has}
 use Rattle.words.specs.Value.{valueFrom, valueWordsOf}
 use Rattle.words.specs.Error.{kindFrom, errorFrom, errorWordsOf}
-use Rattle.words.specs.Entry.{qualityFrom, entryFrom, heldFrom, entryWordsOf, heldWordsOf, entryCells}
+use Rattle.words.specs.Entry.{entryFrom, heldFrom, entryWordsOf, heldWordsOf, entryCells}
 use Rattle.words.specs.declared.entry.EntryWords.{EntryWords}
 use Rattle.words.proofs.Laws.{kind-other, error-coded, quality-coded}
 use Rattle.memory.specs.Cells.{cellsIn, rowsIn, noRow, wordAt}

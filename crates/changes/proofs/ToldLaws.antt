@@ -1,7 +1,7 @@
 -- What is read of a list that a step wrote: the changes, as the definition that wrote them has them.
 use mathlib.Core.Path.{_≡_, refl, ap, sym, _∙_}
 use mathlib.Core.List.{List, [], _∷_, _++_, map, map-append}
-use Prim.Native.Nat.{ℕ, zero, suc, _+_, _*_, _/_, _%_, _≤_, _<_, _^_, min}
+use Prim.Native.Nat.{ℕ, zero, suc, _+_, _*_, _/_, _≤_, _<_, _^_, min}
 use native.Mathlib.Nat.{mod-eq-of-lt, not-suc-le-zero, le-of-suc-le-suc}
 use native.Mathlib.Numerals.{add-one}
 use native.Mathlib.Omega.{arith}
@@ -13,7 +13,7 @@ use Rattle.memory.specs.Cells.{cellsIn}
 use Rattle.memory.proofs.CellLaws.{length-cells, cells-put}
 use Rattle.names.specs.Directory.{maxNames}
 use Rattle.values.specs.declared.entry.Entry.{Entry}
-use Rattle.words.specs.Entry.{entryFrom, heldWordsOf, entryCells}
+use Rattle.words.specs.Entry.{entryFrom, heldWordsOf}
 use Rattle.table.specs.Tag.{freshTag}
 use Rattle.table.specs.Table.{tableIn}
 use Rattle.table.specs.declared.tag.Tag.{Tag}
@@ -23,7 +23,7 @@ use Rattle.lent.proofs.LentLaws.{wrote-none, wrote-length, put-next, cell-store
 use Rattle.runs.specs.Run.{over}
 use Rattle.runs.proofs.Rows.{over-next}
 use Rattle.changes.specs.declared.Change.{Change}
-use Rattle.changes.specs.Changes.{changeIn, changesFrom, told, changeOf, entryOf}
+use Rattle.changes.specs.Changes.{changeIn, changesFrom, told, changeOf}
 use Rattle.changes.proofs.TakeLaws.{change-read}
 use Rattle.changes.proofs.FitLaws.{Fit, held-back, cells-small, table-fit}
 

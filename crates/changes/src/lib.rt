@@ -85,7 +85,7 @@ fn changes_in(list: &[u8], n: usize) -> Told
 
 // The first n of `from` over the first places of `out`; the places past them keep their contents. A run under 120 places
 // is refused (43), and left as it was.
-pub fn fill_changes(out: &mut [Change], from: [Change; MAX_NAMES], n: usize) -> u32
+fn fill_changes(out: &mut [Change], from: [Change; MAX_NAMES], n: usize) -> u32
     requires { ⌜ n ≤ maxNames ⌝ }
     ensures { λ r. ⌜ (r ≡ answer maxNames 43 (now (out .entry))) × (now (out .exit) ≡ filled maxNames n from (now (out .entry))) ⌝ }
 {
@@ -110,11 +110,13 @@ pub fn read_changes(out: &mut [Change], list: &[u8], n: usize) -> u32
     fill_changes(out, items, most)
 }
 
-// One of a run.
-pub fn change_at(changes: &[Change], i: usize) -> Change
-    requires { ⌜ i < length (now changes) ⌝ }
-    ensures { λ r. ⌜ r ≡ getD (now (changes .entry)) i noChange ⌝ }
+// One of a run; past its end `none`.
+pub fn change_at(changes: &[Change], i: usize, none: Change) -> Change
+    ensures { λ r. ⌜ r ≡ getD (now (changes .entry)) i none ⌝ }
 {
+    if changes.len() <= i {
+        return none;
+    }
     changes[i]
 }
 

@@ -4,7 +4,6 @@ use Prim.Native.Nat.{_%_}
 use denote.Ref.{now}
 use Rattle.memory.specs.Cells.{cellsIn}
 use Rattle.values.specs.declared.entry.Entry.{Entry}
-use Rattle.changes.specs.declared.Change.{Change}
 use Rattle.changes.proofs.TakeLaws.{change-read}
 use borrow.Author.Needs.{needs}
 use Rattle.changes.proofs.change_in.Statement.{statement}

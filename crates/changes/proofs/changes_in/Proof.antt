@@ -10,7 +10,7 @@ use Rattle.memory.specs.Cells.{cellsIn}
 use Rattle.names.specs.Directory.{maxNames}
 use Rattle.runs.proofs.Rows.{take-next}
 use Rattle.changes.specs.declared.Change.{Change}
-use Rattle.changes.specs.Changes.{changeIn, changesFrom}
+use Rattle.changes.specs.Changes.{changesFrom}
 use Rattle.changes.proofs.TakeLaws.{changes-next}
 use borrow.Author.Needs.{needs}
 use Rattle.changes.proofs.changes_in.Statement.{statement}

@@ -4,7 +4,6 @@ use native.Mathlib.Omega.{arith}
 use borrow.Author.Needs.{needs}
 use Rattle.session.proofs.print.changes.Statement.{statement}
 use Rattle.session.proofs.print.changes.Tie as tie
-use Rattle.directory.proofs.name_in.Reads as name-in-reads
 
 abbrev Inv-loop : tie.InvT-loop
 Inv-loop names ends n run i₀ i = i ≤ n
