@@ -1,10 +1,10 @@
--- `session::run::steps` meets its contract.
+-- `watch::run::steps` meets its contract.
 use mathlib.Core.Path.{_≡_, refl}
 use native.Mathlib.Omega.{arith}
 use borrow.Author.Needs.{needs}
 use lib.ListN.{length}
-use Rattle.session.proofs.run.steps.Statement.{statement}
-use Rattle.session.proofs.run.steps.Tie as tie
+use Rattle.watch.proofs.run.steps.Statement.{statement}
+use Rattle.watch.proofs.run.steps.Tie as tie
 
 abbrev Inv-loop : tie.InvT-loop
 Inv-loop names ends mem₀ out₀ list₀ run₀ h₀ kind₀ left₀ mem out list run h kind left = (length mem ≡ length mem₀) × (length out ≡ 6720) × (length list ≡ 128)

@@ -1,4 +1,4 @@
-// One session with an engine, from creation to a lost connection, where the host's side is a script. Each event of values
+// An engine watched from creation to a lost connection, where the host's side is a script. Each event of values
 // is read as records, and printed by the names of its tags.
 mod host; // the script
 mod print; // what is printed

@@ -1,9 +1,9 @@
--- `session::print::changes` meets its contract.
+-- `watch::print::changes` meets its contract.
 use Prim.Native.Nat.{_≤_, _-_}
 use native.Mathlib.Omega.{arith}
 use borrow.Author.Needs.{needs}
-use Rattle.session.proofs.print.changes.Statement.{statement}
-use Rattle.session.proofs.print.changes.Tie as tie
+use Rattle.watch.proofs.print.changes.Statement.{statement}
+use Rattle.watch.proofs.print.changes.Tie as tie
 
 abbrev Inv-loop : tie.InvT-loop
 Inv-loop names ends n run i₀ i = i ≤ n

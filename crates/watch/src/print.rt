@@ -1,4 +1,4 @@
-// What a session prints.
+// What is printed.
 use changes::Change;
 use libc::STDOUT_FILENO;
 use values::entry::Quality;
