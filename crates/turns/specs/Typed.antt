@@ -18,7 +18,7 @@ use Rattle.turns.specs.Demand.{History}
 abbrev pub Lendable : List ℕ → Type 0
 Lendable bs = AllFit w8 bs × (length bs < 2 ^ 63)
 
--- The arguments of a call are values of their types: f64, i64, u32, u64, and lists of bytes. Of a look nothing is asked.
+-- The arguments of a call are values of their types: f64, i64 (but for its least number), u32, u64, and lists of bytes. Of a look nothing is asked.
 unfoldable pub Typed : Call → Type 0
 Typed (tier clock tag to) = (fits binary64 clock ≡ true) × (tag < 2 ^ 32) × (to < 2 ^ 32)
 Typed (load clock list) = (fits binary64 clock ≡ true) × Lendable list
