@@ -1,11 +1,15 @@
 -- The first changes of a list, one after the other.
 use mathlib.Core.Path.{_≡_, refl, ap, _∙_}
+use mathlib.Core.Bool.{Bool, true, false}
 use mathlib.Core.List.{List, [], _∷_, _++_}
-use Prim.Native.Nat.{ℕ, zero, suc, _+_, _*_, _%_, min}
+use Prim.Native.Nat.{ℕ, zero, suc, _+_, _*_, _%_, _<_, min}
+use native.Mathlib.Nat.{not-suc-le-zero}
 use native.Mathlib.Numerals.{add-one}
 use native.Mathlib.Omega.{arith}
-use lib.ListN.{length, getD, take, length-append}
-use lib.Seq.{take-all}
+use lib.Dec.{ltb}
+use lib.ListN.{length, getD, take, length-append, List·getD-append}
+use lib.Seq.{take-all, getD-at}
+use borrow.Author.Tests.{ltb-true, ltb-false}
 use Rattle.memory.specs.Cells.{cellsIn}
 use Rattle.names.specs.Directory.{maxNames}
 use Rattle.words.specs.Entry.{entryFrom}
@@ -35,3 +39,19 @@ change-read cells i tag held kind word t error message a b c d e f g =
 -- all of them, as the first of them
 pub told-whole : (list : List ℕ) (n : ℕ) → take (min n maxNames) (told list n) ≡ told list n
 told-whole list n = take-all (min n maxNames) (told list n) (omega (arith, length-changes (cellsIn list) (min n maxNames)))
+
+-- record i is the change of cells 7i to 7i + 6
+changes-at : (cells : List ℕ) (n i : ℕ) (d : Change) → i < n → getD (changesFrom cells n) i d ≡ changeIn cells i
+unfolding changesFrom
+changes-at cells zero i d h = absurd (not-suc-le-zero h)
+changes-at cells (suc n) i d h = go (ltb i n) refl (changes-at cells n i d)
+  where
+    go : (z : Bool) → ltb i n ≡ z → (i < n → getD (changesFrom cells n) i d ≡ changeIn cells i) → getD (changesFrom cells n ++ (changeIn cells n ∷ [])) i d ≡ changeIn cells i
+    go true e before =
+        List·getD-append (changesFrom cells n) (changeIn cells n ∷ []) d i (omega (arith, length-changes cells n, ltb-true i n e)) ∙ before (ltb-true i n e)
+    go false e before =
+        let last : n ≡ i = omega (arith, ltb-false i n e) in
+        getD-at (changesFrom cells n) (changeIn cells n) [] d i (length-changes cells n ∙ last) ∙ ap (changeIn cells) last
+
+pub told-at : (list : List ℕ) (n i : ℕ) (d : Change) → i < min n maxNames → getD (told list n) i d ≡ changeIn (cellsIn list) i
+told-at list n i d h = changes-at (cellsIn list) (min n maxNames) i d h

@@ -10,7 +10,9 @@ use lib.Seq.{take-suc, take-all, getD-drop, length-take-le}
 use Rattle.lists.specs.Keep.{Below}
 use Rattle.lists.proofs.KeepLaws.{below-append}
 use Rattle.memory.specs.Cells.{cellsIn}
+use Rattle.memory.specs.Lists.{listIn}
 use Rattle.memory.proofs.CellLaws.{length-cells, cells-put}
+use Rattle.memory.proofs.ListLaws.{list-below}
 use Rattle.names.specs.Directory.{maxNames}
 use Rattle.values.specs.declared.entry.Entry.{Entry}
 use Rattle.words.specs.Entry.{entryFrom, heldWordsOf}
@@ -127,3 +129,8 @@ module _ (tags : List Tag) where
 pub told-exact : (table ks out : List ℕ) → Below 65536 ks → length ks ≤ maxNames → 56 * length ks ≤ length out
     → told (wroteAll out (records (changeCells (tableIn table)) ks)) (length ks) ≡ map (changeOf (tableIn table)) ks
 told-exact table ks out below few room = told-of (tableIn table) (table-fit table) ks out below few room
+
+-- the same of a list of tags in memory, as `lent::changes::put_changes` leaves it
+pub told-put : (table list out : List ℕ) → length (listIn list) ≤ maxNames → 56 * length (listIn list) ≤ length out
+    → told (wroteAll out (records (changeCells (tableIn table)) (listIn list))) (length (listIn list)) ≡ map (changeOf (tableIn table)) (listIn list)
+told-put table list out few room = told-exact table (listIn list) out (list-below list) few room
