@@ -1,0 +1,2 @@
+-- What the records read of a step's list are.
+pub mod EventLaws
