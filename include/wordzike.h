@@ -18,6 +18,9 @@
  *                bits of a float. What the host hands in may have any word but 0 for true; a kind above 3 is read as null.
  *   error        two cells: 0 for none, 1 not found, 2 no access, the code and 3 (3 to 65538) for another; and the number of
  *                its message, below 2^32.
+ *                Numbers past these ranges are no part of document 01, and not refused in a result: there a code is taken
+ *                modulo 2^16 and a message modulo 2^32. (As an answer to a write, an error past 65538 is refused, and a
+ *                message comes back as it was handed in.)
  *   entry        six cells: 0 where there is none, or the quality (WZ_GOOD and so on); the value; the wall time; the error.
  *
  * Refusals. A function answers 0, or the number of document 01's check that refuses: then nothing at all was written, and
@@ -226,7 +229,7 @@ uint32_t wz_stop(uint8_t *mem, size_t mem_len);
  *   clock, wall  the clock reading and the wall time of the answer
  *   kind, number, message, list  the answer; WZ_BEGIN and so on say what each needs. Results are WZ_RESULT bytes each: the
  *                value, then the error (where there is an error the value doesn't count). Descriptions are WZ_DESCRIPTION
- *                bytes each: 0 for none, or the number and 1. Of both there may be fewer than asked for, which are then those
+ *                bytes each: 0 for none, or the number (modulo 2^32) and 1. Of both there may be fewer than asked for, which are then those
  *                of the first tags, or more: those past the tags are ignored. So is a part of a record at the end.
  *   out          room for the list that comes back; bytes past it keep their contents
  * Refusals, in this order: 100, 43 (`out` under WZ_LIST bytes), 21, 22, 41, then 14 (settings) or 42 (results that are
