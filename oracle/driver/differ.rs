@@ -527,39 +527,54 @@ pub(super) fn port() {
     print!("{}", port_text(&text, &mut Met::default()));
 }
 
+/// What a run has met so far.
+#[derive(Default)]
+struct Run {
+    met: Met,
+    inside: BTreeMap<String, u64>,
+    histories: u64,
+    answers: u64,
+    differ: u64,
+}
+
+impl Run {
+    /// Whether both traces of a history are the same; prints what isn't.
+    fn is_same(&mut self, seed: u64, n: u64, profile: &str) -> bool {
+        let (head, source) = generate::new(seed, n, profile);
+        let (text, counts, answers) = run_history(head, Box::new(source), Manner::default());
+        for (what, k) in counts {
+            *self.inside.entry(what).or_default() += k;
+        }
+        self.answers += answers;
+        self.histories += 1;
+        let Some((number, x, y)) = first_difference(&text, &port_text(&text, &mut self.met)) else {
+            return true;
+        };
+        println!("seed {seed} profile {profile} differs in line {number}\n    the Rust: {x}\n    here:     {y}");
+        self.differ += 1;
+        if self.differ == 1 {
+            show(&text);
+        }
+        false
+    }
+}
+
 /// Histories of seeds from `first` on, `count` for each profile, of about `n` answers each.
 pub(super) fn run(first: u64, count: u64, n: u64, profiles: &[&str]) {
     let begun = Instant::now();
-    let mut met = Met::default();
-    let mut inside: BTreeMap<String, u64> = BTreeMap::new();
-    let (mut histories, mut answers, mut differ) = (0u64, 0, 0u64);
+    let mut run = Run::default();
     for profile in profiles {
-        let mut here = 0;
+        let mut wrong = 0;
         for seed in first..first + count {
-            let (head, source) = generate::new(seed, n, profile);
-            let (text, counts, a) = run_history(head, Box::new(source), Manner::default());
-            for (what, k) in counts {
-                *inside.entry(what).or_default() += k;
-            }
-            answers += a;
-            histories += 1;
-            if let Some((number, x, y)) = first_difference(&text, &port_text(&text, &mut met)) {
-                println!(
-                    "seed {seed} profile {profile} differs in line {number}\n    the Rust: {x}\n    here:     {y}"
-                );
-                here += 1;
-                if differ + here == 1 {
-                    show(&text);
-                }
-                if here == 5 {
-                    println!("no more of this profile");
-                    break;
-                }
+            wrong += u32::from(!run.is_same(seed, n, profile));
+            if wrong == 5 {
+                println!("no more of this profile");
+                break;
             }
         }
-        differ += here;
     }
-    met.print(&inside);
+    run.met.print(&run.inside);
+    let Run { histories, answers, differ, .. } = run;
     println!("{histories} histories, {answers} answers, {differ} differ, {:.1} s", begun.elapsed().as_secs_f64());
     if differ > 0 {
         std::process::exit(1);
