@@ -23,7 +23,6 @@ use Rattle.board.specs.Regions.{Regions, regionsIn, part, boardSize}
 use Rattle.board.specs.Board.{Board, boardOf, boardIn, withQueue, withAsked, withBack, withRecords, queuedTags, keptBack, describing}
 use Rattle.board.proofs.Laws.{part-length, part-before, putBack, putAsked, putQueue, putTable, put-back, put-asked, put-queue, put-table}
 
-
 queue-of : (R : Regions) (y : List ℕ) (q : List Write) → queueRoom y ≡ queueRoom (R .queue) → queueIn y ≡ q → boardOf (putQueue R y) ≡ withQueue (boardOf R) q
 unfolding boardOf
 queue-of R y q r e = rw (r, e) refl
