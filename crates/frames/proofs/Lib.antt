@@ -1,0 +1,3 @@
+-- Laws that the proofs of the functions share, and what their definitions mean.
+pub mod Laws
+pub mod Meaning

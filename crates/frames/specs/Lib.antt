@@ -1,0 +1,3 @@
+-- What the functions on frames answer.
+pub mod Numbers
+pub mod Compare
