@@ -4,7 +4,7 @@
 #           src--crates--ciplink-server--src--worker.rs.txt (default: ../shared/docs/src, seen from the repository's top)
 #   OUT     where to build (default: target/oracle in the repository); the program is $OUT/oracle
 #   LEAVES  an archive of the leaves (libleaves.a): the program then has the commands `leaves` and `rounds`
-#   CAPI    an archive of the entry points (libcapi.a): the program then has the commands `port` and `differ`
+#   CAPI    an archive of the entry points (libcapi.a): the program then has the commands `port`, `differ` and `record`
 set -eu
 here=$(cd "$(dirname "$0")" && pwd)
 top=$(dirname "$here")
@@ -90,7 +90,7 @@ put "$out/new" "$tree/src/slices.rs"
 
 put "$here/driver/main.rs" "$tree/src/main.rs"
 put "$here/driver/worker_tests.rs" "$tree/src/worker_tests.rs"
-for f in gen names inputs lists leaves rounds differ; do
+for f in gen names inputs lists leaves rounds differ record refusals tape; do
     put "$here/driver/$f.rs" "$tree/src/$f.rs"
 done
 put "$here/Cargo.toml" "$tree/Cargo.toml"
@@ -119,6 +119,10 @@ if [ -n "$capi" ]; then
     features="$features --features capi"
     WORDZIKE_LIB=$(cd "$(dirname "$capi")" && pwd)/$(basename "$capi")
     export WORDZIKE_LIB
+    # `record` sees each call of an exported function
+    for f in create set_tier load write stop step state stats tier_counts group_stats table panel tag; do
+        link="$link -C link-arg=-Wl,--wrap=wz_$f"
+    done
 fi
 
 cd "$tree"

@@ -163,7 +163,7 @@ fn reply_text(reply: &Reply) -> String {
 // ------------------------------------------------------------------------------------------ what was met
 
 #[derive(Default)]
-struct Met {
+pub(super) struct Met {
     /// How often the engine came to each phase, and the calls that were made there.
     phases: [u64; PHASES.len()],
     calls: [[u64; CALLS.len()]; PHASES.len()],
@@ -174,6 +174,12 @@ struct Met {
 impl Met {
     fn tell(&mut self, what: &str) {
         *self.told.entry(what.into()).or_default() += 1;
+    }
+
+    /// The phases that were not come to.
+    pub(super) fn not_met(&self) -> Vec<&'static str> {
+        let none = PHASES.iter().zip(self.phases).filter(|(_, n)| *n == 0);
+        none.map(|((name, _), _)| *name).collect()
     }
 
     fn print(&self, inside: &BTreeMap<String, u64>) {
@@ -207,7 +213,7 @@ struct Port<'a> {
 }
 
 /// The text of a history, traced through the exported functions.
-fn port_text(text: &str, met: &mut Met) -> String {
+pub(super) fn port_text(text: &str, met: &mut Met) -> String {
     let mut lines = text.lines().map(str::to_owned);
     let head = Head::parse(&mut lines);
     assert!(head.chunk.is_none(), "reads are not cut into runs yet (change request N1)");
@@ -423,7 +429,7 @@ impl Port<'_> {
 // ------------------------------------------------------------------------------------------ comparing
 
 /// The first line that differs: its number, the Rust's and ours.
-fn first_difference(rust: &str, port: &str) -> Option<(usize, String, String)> {
+pub(super) fn first_difference(rust: &str, port: &str) -> Option<(usize, String, String)> {
     if rust == port {
         return None;
     }

@@ -27,9 +27,18 @@ mod leaves;
 mod lists;
 #[path = "names.rs"]
 mod names;
+#[cfg(feature = "capi")]
+#[path = "record.rs"]
+mod record;
+#[cfg(feature = "capi")]
+#[path = "refusals.rs"]
+mod refusals;
 #[cfg(feature = "leaves")]
 #[path = "rounds.rs"]
 mod rounds;
+#[cfg(feature = "capi")]
+#[path = "tape.rs"]
+mod tape;
 
 const PLC: &str = "plc";
 const CLOCK_LIMIT: f64 = 1e9;
@@ -1212,7 +1221,8 @@ oracle gen SEED N [PROFILE] | replay [--inner] | batch FIRST COUNT N [PROFILE] |
 oracle lister | lists SEED [COUNT PROGRAM]
 --single, with the first three: each outcome that fail_writes tells is an event of its own
 built with the leaves' archive also: leaves SEED COUNT | rounds [TAGS] [ROUNDS]
-built with the entry points' archive also: port | differ FIRST COUNT N [PROFILE ...]";
+built with the entry points' archive also: port | differ FIRST COUNT N [PROFILE ...]
+| record PART ..., a part being refusals, board, backoff, PROFILE:FIRST:COUNT:N or a file with a history";
 
 impl PlcWorker {
     /// The oracle's entry, here because this module is private to worker.rs.
@@ -1255,6 +1265,8 @@ impl PlcWorker {
                 let profiles = if profiles.is_empty() { &generate::PROFILES[..] } else { profiles };
                 differ::run(num(first), num(count), num(n), profiles);
             }
+            #[cfg(feature = "capi")]
+            ["record", ref parts @ ..] if known => record::run(parts),
             ["bench", ref rest @ ..] if known => bench(rest.first().map_or(120, |t| num(t))),
             _ => {
                 eprintln!("{USAGE}");

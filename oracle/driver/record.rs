@@ -1,0 +1,119 @@
+//! `oracle record` writes calls with their answers, for crates/replay. A history is traced by the Rust and through the exported
+//! functions; where every line is equal the calls that were made are recorded.
+
+use super::differ::{Met, first_difference, port_text};
+use super::tape::Tape;
+use super::*;
+
+/// A history with the Rust's trace of it.
+fn record(tape: Tape, met: &mut Met, name: &str, rust: &str) -> Tape {
+    let mut port = String::new();
+    let tape = tape.with(|| port = port_text(rust, met));
+    if let Some((number, x, y)) = first_difference(rust, &port) {
+        eprintln!("{name} differs in line {number}: nothing is recorded\n    the Rust: {x}\n    here:     {y}");
+        std::process::exit(1);
+    }
+    tape
+}
+
+/// `PROFILE:FIRST:COUNT:N`: generated histories.
+fn generated(mut tape: Tape, met: &mut Met, profile: &str, first: u64, count: u64, n: u64) -> Tape {
+    for seed in first..first + count {
+        let (head, source) = generate::new(seed, n, profile);
+        let (text, ..) = run_history(head, Box::new(source), Manner::default());
+        tape = record(tape, met, &format!("{profile} {seed}"), &text);
+    }
+    tape
+}
+
+/// A file with a history.
+fn of_file(tape: Tape, met: &mut Met, file: &str) -> Tape {
+    let text = std::fs::read_to_string(file).unwrap_or_else(|e| panic!("{file}: {e}"));
+    record(tape, met, file, &replay_text(&text, false))
+}
+
+/// A full board: 120 tags, every twelfth in tier 1 and the others in tier 2, over three turns of two rounds and one round more;
+/// then the connection is lost, and comes back. Each round has more results than tags, and none has the value it had before.
+fn board() -> String {
+    let second = |s: u64| hex(s as f64);
+    let mut text = format!("options {} {} {}\n", second(1), second(2), second(5));
+    for k in 0..120 {
+        let _ = writeln!(text, "name {}{k:03}", if k < 60 { "Line" } else { "line" });
+    }
+    let settings = (0..120).map(|k| if k % 24 == 0 { " 3fe0000000000000,3:1000,0" } else { " -,-,0" });
+    let _ = writeln!(text, "settings{}\ngroup 3 1000\nstart", settings.collect::<String>());
+    let tags: String = (0..120).map(|k| format!("{k:02x}")).collect();
+    let tiers: String = (0..120).map(|k| if k % 12 == 0 { "01" } else { "02" }).collect();
+    let _ = writeln!(text, "call load {} 78{tags}{tiers}", second(0));
+    let mut answer = |clock: u64, what: &str| {
+        let _ = writeln!(text, "answer {} {} {what}", second(clock), 1_700_000_000_000 + 1000 * clock);
+    };
+    for what in ["begin", "connect ok", "version 4 same", "taken"] {
+        answer(1, what);
+    }
+    for round in 1..=7 {
+        let result = |k: u64| match k % 8 {
+            3 => format!(" e{}:{round}", k % 5),
+            5 => format!(" f{}", hex(round as f64 + k as f64 / 8.0)),
+            6 => format!(" b{}", round % 2),
+            _ => format!(" i{}", 1000 * round + k),
+        };
+        let results: String = (0..if round == 1 { 120 } else { 70 }).map(result).collect();
+        answer(round, &format!("read{results}"));
+        answer(round, "taken");
+        if round == 1 {
+            let found: String = (0..120).map(|k| if k % 3 == 0 { " -".into() } else { format!(" {k}") }).collect();
+            answer(round, &format!("describe{found}"));
+            answer(round, "taken");
+        }
+        answer(round, "version 4 same");
+        answer(round + 1, "waited");
+    }
+    for what in ["read lost", "taken", "taken", "waited", "taken", "connect ok", "version 5 same", "taken", "taken"] {
+        answer(8, what);
+    }
+    text + "call look all\n"
+}
+
+/// Seven connects that fail, so that the waits between them grow as far as they do; one that works, and a loss at once: the
+/// waits begin anew.
+fn backoff() -> String {
+    let mut text = format!("options {} {} {}\nname A\nsettings -,-,0\nstart\n", hex(1.0), hex(2.0), hex(5.0));
+    let _ = writeln!(text, "call tier {} 0 1", hex(0.0));
+    let failed = ["connect failed", "taken", "waited", "taken"].repeat(7);
+    let lost = ["connect ok", "version 1 same", "taken", "read lost", "taken", "waited", "taken", "connect failed"];
+    for (k, what) in ["begin"].iter().chain(&failed).chain(&lost).enumerate() {
+        let _ = writeln!(text, "answer {} {} {what}", hex(k as f64), 1000 * k);
+    }
+    text + "call look all\n"
+}
+
+/// `oracle record PART ...`: all parts or nothing, to standard output; what was recorded, to standard error.
+pub(super) fn run(parts: &[&str]) {
+    let (mut tape, mut met) = (Tape::default(), Met::default());
+    for part in parts {
+        let before = tape.histories;
+        tape = match part.split(':').collect::<Vec<_>>()[..] {
+            ["refusals"] => tape.with(refusals::run),
+            ["board"] => record(tape, &mut met, "the board", &replay_text(&board(), false)),
+            ["backoff"] => record(tape, &mut met, "the backoff", &replay_text(&backoff(), false)),
+            [profile, first, count, n] => generated(tape, &mut met, profile, num(first), num(count), num(n)),
+            _ => of_file(tape, &mut met, part),
+        };
+        let name = part.rsplit('/').next().expect("a name");
+        eprintln!("histories {} to {}: {name}", before + 1, tape.histories);
+    }
+    tape.end();
+    std::io::stdout().write_all(&tape.frames).expect("standard output");
+    for phase in met.not_met() {
+        eprintln!("not met: phase {phase}");
+    }
+    for ((call, refusal, kind), n) in &tape.met {
+        match (*refusal, *kind) {
+            (0, 0) => eprintln!("{n:>8} {call}"),
+            (0, kind) => eprintln!("{n:>8} {call}, kind {kind}"),
+            (refusal, _) => eprintln!("{n:>8} {call}, refused with {refusal}"),
+        }
+    }
+    eprintln!("{} histories, {} calls, {} bytes of answers, all as recorded", tape.histories, tape.calls, tape.bytes);
+}
