@@ -32,47 +32,59 @@ fn of_file(tape: Tape, met: &mut Met, file: &str) -> Tape {
     record(tape, met, file, &replay_text(&text, false))
 }
 
-/// A full board: 120 tags, every twelfth in tier 1 and the others in tier 2, over three turns of two rounds and one round more;
-/// then the connection is lost, and comes back. Each round has more results than tags, and none has the value it had before.
+/// A full board: 120 tags, every twelfth in tier 1 and the others in tier 2, over three turns of two rounds and one round more.
+/// Each round has more results than tags. After the third, some tags leave tier 1, and their graces run out together; after the
+/// sixth the version changes, and the seventh reads what the fifth did, which is told again. Then the connection is lost, and comes back.
 fn board() -> String {
     let second = |s: u64| hex(s as f64);
-    let mut text = format!("options {} {} {}\n", second(1), second(2), second(5));
+    let mut text = format!("options {} {} {}\n", second(1), second(2), second(2));
     for k in 0..120 {
         let _ = writeln!(text, "name {}{k:03}", if k < 60 { "Line" } else { "line" });
     }
-    let settings = (0..120).map(|k| if k % 24 == 0 { " 3fe0000000000000,3:1000,0" } else { " -,-,0" });
+    let settings = (0..120).map(|k| if k % 24 == 5 { " 3fe0000000000000,3:1000,0" } else { " -,-,0" });
     let _ = writeln!(text, "settings{}\ngroup 3 1000\nstart", settings.collect::<String>());
     let tags: String = (0..120).map(|k| format!("{k:02x}")).collect();
-    let tiers: String = (0..120).map(|k| if k % 12 == 0 { "01" } else { "02" }).collect();
+    let tiers: String = (0..120).map(|k| if k % 12 == 5 { "01" } else { "02" }).collect();
     let _ = writeln!(text, "call load {} 78{tags}{tiers}", second(0));
-    let mut answer = |clock: u64, what: &str| {
-        let _ = writeln!(text, "answer {} {} {what}", second(clock), 1_700_000_000_000 + 1000 * clock);
-    };
+    let at = |clock: u64, what: &str| format!("answer {} {} {what}\n", second(clock), 1_700_000_000_000 + 1000 * clock);
     for what in ["begin", "connect ok", "version 4 same", "taken"] {
-        answer(1, what);
+        text += &at(1, what);
     }
     for round in 1..=7 {
-        let result = |k: u64| match k % 8 {
-            3 => format!(" e{}:{round}", k % 5),
-            5 => format!(" f{}", hex(round as f64 + k as f64 / 8.0)),
-            6 => format!(" b{}", round % 2),
-            _ => format!(" i{}", 1000 * round + k),
-        };
-        let results: String = (0..if round == 1 { 120 } else { 70 }).map(result).collect();
-        answer(round, &format!("read{results}"));
-        answer(round, "taken");
-        if round == 1 {
+        let results: String = (0..if round == 1 { 120 } else { 70 }).map(|k| board_result(k, round)).collect();
+        text += &at(round, &format!("read{results}"));
+        text += &at(round, "taken");
+        if round == 1 || round == 7 {
             let found: String = (0..120).map(|k| if k % 3 == 0 { " -".into() } else { format!(" {k}") }).collect();
-            answer(round, &format!("describe{found}"));
-            answer(round, "taken");
+            text += &at(round, &format!("describe{found}"));
+            text += &at(round, "taken");
         }
-        answer(round, "version 4 same");
-        answer(round + 1, "waited");
+        text += &at(round, if round < 6 { "version 4 same" } else { "version 5 same" });
+        if round == 6 {
+            text += &at(round, "taken");
+        }
+        if round == 3 {
+            for tag in [5, 17, 29, 41, 53] {
+                let _ = writeln!(text, "call tier {} {tag} 3", second(round));
+            }
+        }
+        text += &at(round + 1, "waited");
     }
-    for what in ["read lost", "taken", "taken", "waited", "taken", "connect ok", "version 5 same", "taken", "taken"] {
-        answer(8, what);
+    for what in ["read lost", "taken", "taken", "waited", "taken", "connect ok", "version 6 same", "taken", "taken"] {
+        text += &at(8, what);
     }
     text + "call look all\n"
+}
+
+/// The result at a place of a round's list. No value is the one of the round before.
+fn board_result(k: u64, round: u64) -> String {
+    let round = if round == 7 { 5 } else { round };
+    match k % 8 {
+        3 => format!(" e{}:{round}", k % 5),
+        5 => format!(" f{}", hex(round as f64 + k as f64 / 8.0)),
+        6 => format!(" b{}", round % 2),
+        _ => format!(" i{}", 1000 * round + k),
+    }
 }
 
 /// Seven connects that fail, so that the waits between them grow as far as they do; one that works, and a loss at once: the
