@@ -87,17 +87,33 @@ fn board_result(k: u64, round: u64) -> String {
     }
 }
 
+/// A history of one tag in tier 1, of which the host's lines are given: calls as they are, answers each a second after the last.
+fn of_one_tag(lines: &[&str]) -> String {
+    let mut text = format!("options {} {} {}\nname A\nsettings -,-,0\nstart\n", hex(1.0), hex(2.0), hex(5.0));
+    let _ = writeln!(text, "call tier {} 0 1", hex(0.0));
+    for (k, line) in lines.iter().enumerate() {
+        let _ = match line.strip_prefix("tier ") {
+            Some(tier) => writeln!(text, "call tier {} 0 {tier}", hex(k as f64)),
+            None => writeln!(text, "answer {} {} {line}", hex(k as f64), 1000 * k),
+        };
+    }
+    text + "call look all\n"
+}
+
 /// Seven connects that fail, so that the waits between them grow as far as they do; one that works, and a loss at once: the
 /// waits begin anew.
 fn backoff() -> String {
-    let mut text = format!("options {} {} {}\nname A\nsettings -,-,0\nstart\n", hex(1.0), hex(2.0), hex(5.0));
-    let _ = writeln!(text, "call tier {} 0 1", hex(0.0));
     let failed = ["connect failed", "taken", "waited", "taken"].repeat(7);
     let lost = ["connect ok", "version 1 same", "taken", "read lost", "taken", "waited", "taken", "connect failed"];
-    for (k, what) in ["begin"].iter().chain(&failed).chain(&lost).enumerate() {
-        let _ = writeln!(text, "answer {} {} {what}", hex(k as f64), 1000 * k);
-    }
-    text + "call look all\n"
+    of_one_tag(&[vec!["begin"], failed, lost.to_vec()].concat())
+}
+
+/// A tag that leaves its tiers and comes back: a value that was told is told again.
+fn again() -> String {
+    let first =
+        ["begin", "connect ok", "version 1 same", "taken", "read i5", "taken", "describe -", "taken", "version 1 same"];
+    let gone = ["tier 2", "tier 0", "tier 1", "waited", "read i5", "taken"];
+    of_one_tag(&[&first[..], &gone[..]].concat())
 }
 
 /// `oracle record PART ...`: all parts or nothing, to standard output; what was recorded, to standard error.
@@ -108,6 +124,7 @@ pub(super) fn run(parts: &[&str]) {
         tape = match part.split(':').collect::<Vec<_>>()[..] {
             ["refusals"] => tape.with(refusals::run),
             ["board"] => record(tape, &mut met, "the board", &replay_text(&board(), false)),
+            ["again"] => record(tape, &mut met, "the tag that comes back", &replay_text(&again(), false)),
             ["backoff"] => record(tape, &mut met, "the backoff", &replay_text(&backoff(), false)),
             [profile, first, count, n] => generated(tape, &mut met, profile, num(first), num(count), num(n)),
             _ => of_file(tape, &mut met, part),

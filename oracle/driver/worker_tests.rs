@@ -1222,7 +1222,7 @@ oracle lister | lists SEED [COUNT PROGRAM]
 --single, with the first three: each outcome that fail_writes tells is an event of its own
 built with the leaves' archive also: leaves SEED COUNT | rounds [TAGS] [ROUNDS]
 built with the entry points' archive also: port | differ FIRST COUNT N [PROFILE ...]
-| record PART ..., a part being refusals, board, backoff, PROFILE:FIRST:COUNT:N or a file with a history";
+| record PART ..., a part being refusals, board, backoff, again, PROFILE:FIRST:COUNT:N or a file with a history";
 
 impl PlcWorker {
     /// The oracle's entry, here because this module is private to worker.rs.
