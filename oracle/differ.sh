@@ -2,7 +2,7 @@
 # Drives the exported functions with the oracle's histories and compares every line with the Rust's trace:
 # differ.sh [FOLDER] [FIRST] [COUNT] [N] [PROFILE ...]
 #   FOLDER  the Rust's sources, as for build.sh
-#   FIRST, COUNT  the seeds of each profile (default 1, and 6000 of them)
+#   FIRST, COUNT  the seeds of each profile (default 1, and 4000 of them)
 #   N       answers in a history, about (default 80)
 #   PROFILE ...  as for `oracle gen` (default: all that are within document 01)
 #   OUT     as for build.sh
@@ -12,7 +12,7 @@ here=$(cd "$(dirname "$0")" && pwd)
 top=$(dirname "$here")
 folder=${1:-$top/../shared/docs/src}
 first=${2:-1}
-count=${3:-6000}
+count=${3:-4000}
 n=${4:-80}
 [ $# -gt 4 ] && shift 4 || set --
 archive=${CAPI:-}
