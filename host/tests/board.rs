@@ -98,8 +98,8 @@ impl Small {
         reply
     }
 
-    /// Goes on to the next round that reads, or for so many requests, and gives its list.
-    fn to_read(&mut self, mut reply: Reply) -> Vec<u32> {
+    /// Goes on to the next round that reads, and gives its list.
+    fn until_read(&mut self, mut reply: Reply) -> Vec<u32> {
         loop {
             let settings = self.settings;
             reply = match reply {
@@ -122,7 +122,7 @@ impl Small {
         let one = |tag: &u32| if missing.contains(tag) { absent } else { Ok(Value::Int(i64::from(*tag))) };
         let results: Vec<_> = list.iter().map(one).collect();
         let reply = self.step(Answer::Results(&results));
-        self.to_read(reply)
+        self.until_read(reply)
     }
 }
 
@@ -131,7 +131,7 @@ fn rounds_and_turns_are_seen_in_an_engine() {
     let mut small = Small::new();
     let begun = small.step(Answer::Begin);
     // all are new in tier 2: the slice is A and b, the others stand behind it
-    let mut list = small.to_read(begun);
+    let mut list = small.until_read(begun);
     assert_eq!(list, [0, 2, 1, 3]);
     for expected in [[1, 3], [0, 2], [1, 3]] {
         list = small.read(&list, &[]);
@@ -139,11 +139,11 @@ fn rounds_and_turns_are_seen_in_an_engine() {
     }
     // the round of all four began no turn, the next two are one
     let full = Turn { tier2: 4, named: 4, held: 0, wrong: vec![] };
-    assert_eq!(small.turns, [full.clone()]);
+    assert_eq!(small.turns, std::slice::from_ref(&full));
     // a list that is lost with a slot of tier 2 in it was a boundary's
     small.turns.extend(small.watch.read_lost());
     let lost = small.step(Answer::Lost);
-    list = small.to_read(lost);
+    list = small.until_read(lost);
     assert_eq!(list, [0, 2]);
     small.read(&list, &[]);
     assert_eq!(small.turns, [full.clone(), full]);
@@ -153,7 +153,7 @@ fn rounds_and_turns_are_seen_in_an_engine() {
 fn empty_boundary_rounds_are_seen() {
     let mut small = Small::new();
     let begun = small.step(Answer::Begin);
-    let mut list = small.to_read(begun);
+    let mut list = small.until_read(begun);
     // all are missing from the second round on, so that for ten seconds no list is asked for
     for _ in 0..3 {
         list = small.read(&list, &[0, 1, 2, 3]);
@@ -179,7 +179,7 @@ fn whole_runs_have_correct_full_turns() {
         assert!(slots >= 5 && track >= 5, "seed {seed}: {slots} and {track} full turns");
         assert_eq!((wrong_slots, wrong_track), (0, 0), "seed {seed}");
         assert!(!text.contains("WRONG"), "seed {seed}");
-        assert_eq!(text.matches("stopped\n").count() >= 2, true, "seed {seed}");
+        assert!(text.matches("stopped\n").count() >= 2, "seed {seed}");
     }
 }
 

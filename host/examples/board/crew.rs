@@ -19,10 +19,14 @@ pub struct Crew {
     next: Micros,
 }
 
-/// The panel lists at the start: a count, the tags, their tiers. Slots are polled by turns but for a few that are parked
-/// (tier 3); of the track the boosters are watched.
+/// The panel lists at the start: a count, the tags, their tiers. Slots are polled by turns, but for a few express trains
+/// (tier 1) and some that are parked (tier 3); of the track the boosters are watched.
 pub fn panels(slots: &Board, track: &Board) -> [Vec<u8>; 2] {
-    let slot = |tag: u32| if matches!(slots.directory.device(tag), Device::Slot(n) if n % 40 == 7) { 3 } else { 2 };
+    let slot = |tag: u32| match slots.directory.device(tag) {
+        Device::Slot(n) if n % 40 == 20 => 1,
+        Device::Slot(n) if n % 40 == 7 => 3,
+        _ => 2,
+    };
     let part = |tag: u32| if matches!(track.directory.device(tag), Device::Booster(_)) { 1 } else { 2 };
     [panel(slots.directory.len(), slot), panel(track.directory.len(), part)]
 }
@@ -45,7 +49,8 @@ impl Crew {
 
     /// One thing is done, and the time of the next is set: some come close together, then there is a pause.
     pub fn act(&mut self, now: Micros, slots: &mut Board, track: &mut Board) -> Result<(), Refusal> {
-        self.next = now + if self.random.once_in(3) { 80_000 } else { self.random.between(2, 9) * SECOND };
+        let pause = if self.random.once_in(2) { 70_000 } else { self.random.between(3, 7) * SECOND };
+        self.next = now + pause;
         match self.random.below(12) {
             0..=3 => self.throttle(now, slots),
             4 | 5 => self.new_speed(now, slots),
@@ -100,7 +105,7 @@ impl Crew {
 
     /// A route is set: a few points at once.
     fn throw_points(&mut self, now: Micros, track: &mut Board) -> Result<(), Refusal> {
-        for _ in 0..self.random.between(1, 4) {
+        for _ in 0..self.random.between(2, 6) {
             let tag = track.directory.tag_of(Device::Point(self.random.below(POINTS)));
             track.write(now, tag, Value::Bool(self.random.once_in(2)))?;
         }

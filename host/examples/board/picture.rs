@@ -45,9 +45,9 @@ impl<W: Write> Screen<W> {
         lines.extend(engine_lines(&self.paint, track));
         lines.push(LEGEND.to_owned());
         lines.extend(self.recent.iter().cloned());
-        let (before, behind) = if self.paint.0 { ("\x1b[H", "\x1b[K\n") } else { ("\n", "\n") };
-        write!(self.out, "{before}{}{behind}", lines.join(behind))?;
-        self.out.write_all(if self.paint.0 { b"\x1b[J" } else { b"\n" })?;
+        let [before, end, behind] = if self.paint.0 { ["\x1b[H", "\x1b[K\n", "\x1b[J"] } else { ["\n", "\n", "\n"] };
+        let text: String = lines.iter().map(|line| format!("{}{end}", line.trim_end())).collect();
+        write!(self.out, "{before}{text}{behind}")?;
         self.out.flush()
     }
 
@@ -66,7 +66,7 @@ impl<W: Write> Screen<W> {
 }
 
 const LEGEND: &str =
-    "tier: * 1, - 3; quality: b bad, m missing, s stale; age in s; turn: # named, m held back, . to come, ! twice";
+    "tier * 1, - 3; b bad, m missing, s stale; age in s; turn # named, m held back, . to come, ! twice";
 
 /// Colours, if any.
 struct Paint(bool);
@@ -135,8 +135,9 @@ fn track_lines(paint: &Paint, board: &Board, now: Micros) -> Vec<String> {
     let mut currents = numbered(Device::Booster, 0, 4);
     currents.extend([Device::Blocks, Device::Points]);
     vec![
-        row("blocks", &numbered(Device::Block, 0, 12), 1),
-        row("", &numbered(Device::Block, 12, 24), 1),
+        row("blocks", &numbered(Device::Block, 0, 8), 1),
+        row("", &numbered(Device::Block, 8, 16), 1),
+        row("", &numbered(Device::Block, 16, 24), 1),
         row("points", &numbered(Device::Point, 0, 8), 1),
         row("", &numbered(Device::Point, 8, 16), 1),
         row("amps", &currents, 5),
@@ -169,7 +170,7 @@ fn engine_lines(paint: &Paint, board: &Board) -> Vec<String> {
             stats.reconnects,
             stats.reloads
         ),
-        format!("  tiers {one} / {two} / {three}   groups: {}", groups(board)),
+        cut(format!("  tiers {one} / {two} / {three}   groups: {}", groups(board))),
         cut(format!("  last list: {}", list(board))),
     ];
     lines[0] = paint.with("1", &lines[0]);
@@ -179,8 +180,8 @@ fn engine_lines(paint: &Paint, board: &Board) -> Vec<String> {
 
 fn groups(board: &Board) -> String {
     let one = |g: &wordzike::GroupStats| {
-        let period = g.period.map_or("never read twice".to_owned(), |ms| format!("last after {ms:.1} ms"));
-        format!("{} each {} ms, {} tags, {period}", g.group.number, g.group.rate, g.tags)
+        let period = g.period.map_or("-".to_owned(), |ms| format!("{ms:.1}"));
+        format!("{} of {} ms: {} tags, last {period}", g.group.number, g.group.rate, g.tags)
     };
     board.engine.group_stats().iter().map(one).collect::<Vec<_>>().join("; ")
 }
@@ -226,7 +227,7 @@ fn turn_lines(paint: &Paint, board: &Board) -> Vec<String> {
 
 fn mark(paint: &Paint, mark: Mark) -> String {
     match mark {
-        Mark::NotInTier2 => " ".to_owned(),
+        Mark::NotInTier2 => "_".to_owned(),
         Mark::ToCome => ".".to_owned(),
         Mark::Named => paint.with("32", "#"),
         Mark::HeldBack => paint.with("35", "m"),

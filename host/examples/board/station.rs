@@ -184,7 +184,9 @@ impl Station {
         match request {
             Request::Connect => self.connect(line),
             Request::Version => Given::Version(self.version),
-            Request::Read(_) | Request::Write(..) | Request::ReadBack(_) if self.breaks(now, line) => Given::Lost,
+            Request::Read(_) | Request::Write(..) | Request::ReadBack(_) if self.breaks(now, line, request) => {
+                Given::Lost
+            }
             Request::Read(list) | Request::ReadBack(list) => {
                 Given::Results(list.iter().map(|tag| self.read(tags.device(*tag))).collect())
             }
@@ -204,8 +206,10 @@ impl Station {
         Given::NotOpened
     }
 
-    fn breaks(&mut self, now: Micros, line: usize) -> bool {
-        if now < self.lines[line].next_loss {
+    /// A line breaks when its time has come, and once in a while under a write.
+    fn breaks(&mut self, now: Micros, line: usize, request: &Request) -> bool {
+        let writing = !matches!(request, Request::Read(_));
+        if now < self.lines[line].next_loss && !(writing && self.random.once_in(25)) {
             return false;
         }
         self.lines[line] =
