@@ -1,0 +1,138 @@
+/* The loop of docs/HOST.md, with a controller of two tags that answers at once and a clock that jumps over the waits.
+ * host/tests/guide.rs holds the text between the two marks to the guide's. */
+#include "../wordzike.h"
+#include "cells.h"
+#include <stdio.h>
+
+/* What the host answers; `bytes` of the list go with it. */
+typedef struct {
+    uint64_t kind, number, message;
+    size_t bytes;
+} answer;
+
+static double clock_now, temperature = 20.0;
+static int64_t wall_now = 1000;
+static int reads, changes, outcomes, connected;
+static uint8_t engine[WZ_MEMORY];
+static const uint8_t settings[2 * WZ_SETTING]; /* no deadband, no group, no description set */
+
+static answer plain(uint64_t kind)
+{
+    answer a = {0, 0, 0, 0};
+    a.kind = kind;
+    return a;
+}
+
+static answer open_plc(void)
+{
+    return plain(WZ_OPENED);
+}
+
+static answer ask_version(uint8_t *list)
+{
+    answer a = plain(WZ_VERSION_IS);
+    memcpy(list, settings, sizeof settings);
+    a.number = 7;
+    a.bytes = sizeof settings;
+    return a;
+}
+
+static answer read_tags(const uint8_t *tags, uint64_t count, uint8_t *list)
+{
+    answer a = plain(WZ_RESULTS);
+    uint64_t i;
+    for (i = 0; i < count; i++) {
+        int is_float = cell(tags, (size_t)i) == 1;
+        put_cell(list, 4 * (size_t)i, is_float ? WZ_FLOAT : WZ_INT);
+        put_cell(list, 4 * (size_t)i + 1, is_float ? bits(temperature) : 3);
+        put_cell(list, 4 * (size_t)i + 2, WZ_NO_ERROR);
+        put_cell(list, 4 * (size_t)i + 3, 0);
+    }
+    reads++;
+    a.bytes = (size_t)count * WZ_RESULT;
+    return a;
+}
+
+static answer write_tag(uint64_t tag, uint64_t kind, uint64_t word)
+{
+    if (tag != 1 || kind != WZ_FLOAT) {
+        answer a = plain(WZ_WRITE_REFUSED);
+        a.number = WZ_OTHER + 4;
+        return a;
+    }
+    memcpy(&temperature, &word, 8);
+    return plain(WZ_WRITTEN);
+}
+
+static answer describe_tags(const uint8_t *tags, uint64_t count, uint8_t *list)
+{
+    (void)tags, (void)count, (void)list;
+    return plain(WZ_NOT_DESCRIBED);
+}
+
+/* Ten seconds with a write, then the stop. */
+static answer wait_for(double seconds)
+{
+    clock_now += seconds;
+    wall_now += (int64_t)(seconds * 1000);
+    if (reads == 5)
+        (void)wz_write(engine, sizeof engine, 1, WZ_FLOAT, bits(25.5));
+    if (clock_now > 10.0)
+        (void)wz_stop(engine, sizeof engine);
+    return plain(WZ_WAITED);
+}
+
+static void tell(const wz_reply *r, const uint8_t *out)
+{
+    (void)out;
+    changes += r->kind == WZ_VALUES ? (int)r->count : 0;
+    outcomes += r->kind == WZ_OUTCOME && r->what == WZ_WENT_THROUGH && r->word == bits(25.5);
+    connected += r->kind == WZ_STATUS && r->what == WZ_CONNECTED;
+}
+
+/* from here */
+static int poll_plc(uint8_t *mem)
+{
+    static uint8_t list[WZ_TAGS * WZ_RESULT], out[WZ_LIST];
+    answer a = plain(WZ_BEGIN);
+    for (;;) {
+        wz_reply r = wz_step(mem, WZ_MEMORY, clock_now, wall_now, a.kind, a.number, a.message, list, a.bytes, out, WZ_LIST);
+        if (r.code != 0)
+            return (int)r.code; /* a mistake of the host: nothing has changed */
+        switch (r.kind) {
+        case WZ_CONNECT: a = open_plc(); break;
+        case WZ_VERSION: a = ask_version(list); break;
+        case WZ_READ:
+        case WZ_READ_BACK: a = read_tags(out, r.count, list); break;
+        case WZ_WRITE: a = write_tag(r.tag, r.value, r.word); break;
+        case WZ_DESCRIBE: a = describe_tags(out, r.count, list); break;
+        case WZ_WAIT: a = wait_for(r.seconds); break;
+        default: tell(&r, out); a = plain(WZ_TAKEN); break;
+        }
+        if (r.kind == WZ_STOPPED)
+            return 0;
+    }
+}
+/* to here */
+
+int main(void)
+{
+    static const uint8_t names[] = {'C', 'o', 'u', 'n', 't', 'T', 'e', 'm', 'p'};
+    static const uint32_t ends[] = {5, 9};
+    int code = (int)wz_create(engine, sizeof engine, names, sizeof names, ends, 2, 1.0, 2.0, 3.0, settings,
+                              sizeof settings, NULL, 0);
+    if (code == 0)
+        code = (int)wz_set_tier(engine, sizeof engine, 0.0, 1, 1);
+    if (code == 0)
+        code = (int)wz_set_tier(engine, sizeof engine, 0.0, 0, 2);
+    if (code == 0)
+        code = poll_plc(engine);
+    /* a first reading of each tag and the one written are told */
+    if (code != 0 || connected != 1 || outcomes != 1 || changes != 3 || reads < 10) {
+        printf("the loop: code %d, connected %d, outcomes %d, changes %d, reads %d\n", code, connected, outcomes,
+               changes, reads);
+        return 1;
+    }
+    puts("the guide's loop polls, writes and stops");
+    return 0;
+}

@@ -1,0 +1,186 @@
+/* How much stack the functions take: each call is made on a stack of its own that was filled with one byte before, and
+ * what has changed afterwards is measured. The calls are those of a host over 120 tags: rounds, writes, lost connections,
+ * reloads, tier calls and looks. Fails above STACK_LIMIT, the number in docs/HOST.md. */
+#define _XOPEN_SOURCE 700
+#include "../wordzike.h"
+#include "cells.h"
+#include <stdio.h>
+#include <ucontext.h>
+
+#define STACK 65536
+#define STACK_LIMIT 16384
+#define FILL 0xa5
+
+enum { CREATE, LOAD, SET_TIER, WRITE, STOP, STEP, GROUPS, TABLE, PANEL, TAG, STATE, STATS, COUNTS, CALLS };
+static const char *const called[CALLS] = {"wz_create", "wz_load",        "wz_set_tier", "wz_write", "wz_stop",
+                                          "wz_step",   "wz_group_stats", "wz_table",    "wz_panel", "wz_tag",
+                                          "wz_state",  "wz_stats",       "wz_tier_counts"};
+
+static uint8_t mem[WZ_MEMORY], out[WZ_LIST], list[WZ_TAGS * WZ_RESULT], settings[WZ_TAGS * WZ_SETTING];
+static uint8_t names[WZ_TAGS * 4], panel[WZ_PANEL_LIST], stack[STACK];
+static uint32_t ends[WZ_TAGS];
+static ucontext_t here, there;
+static size_t deepest[CALLS];
+
+static int what;
+static double clock_now;
+static uint64_t kind, number, tag, tier;
+static size_t bytes;
+static wz_reply reply;
+static uint64_t seed = 1;
+
+static uint64_t below(uint64_t n)
+{
+    seed = seed * 6364136223846793005u + 1442695040888963407u;
+    return (seed >> 33) % n;
+}
+
+static void call(void)
+{
+    switch (what) {
+    case CREATE:
+        reply.code = wz_create(mem, sizeof mem, names, sizeof names, ends, WZ_TAGS, 0.5, 5.0, 4.0, settings,
+                               sizeof settings, NULL, 0);
+        break;
+    case LOAD: reply.code += wz_load(mem, sizeof mem, clock_now, panel, sizeof panel); break;
+    case SET_TIER: (void)wz_set_tier(mem, sizeof mem, clock_now, (uint32_t)tag, (uint32_t)tier); break;
+    case WRITE: (void)wz_write(mem, sizeof mem, (uint32_t)tag, WZ_INT, number); break;
+    case STOP: (void)wz_stop(mem, sizeof mem); break;
+    case STEP:
+        reply = wz_step(mem, sizeof mem, clock_now, (int64_t)(clock_now * 1000), kind, number, 0, list, bytes, out,
+                        sizeof out);
+        break;
+    case GROUPS: (void)wz_group_stats(mem, sizeof mem, out, sizeof out); break;
+    case TABLE: (void)wz_table(mem, sizeof mem, out, sizeof out); break;
+    case PANEL: (void)wz_panel(mem, sizeof mem, panel, sizeof panel); break;
+    case TAG: (void)wz_tag(mem, sizeof mem, (uint32_t)tag); break;
+    case STATE: (void)wz_state(mem, sizeof mem); break;
+    case STATS: (void)wz_stats(mem, sizeof mem); break;
+    default: (void)wz_tier_counts(mem, sizeof mem); break;
+    }
+}
+
+/* Makes a call on the filled stack, and keeps the most that it took. */
+static void measured(int which)
+{
+    size_t i = 0;
+    what = which;
+    memset(stack, FILL, sizeof stack);
+    if (getcontext(&there) != 0)
+        return;
+    there.uc_stack.ss_sp = stack;
+    there.uc_stack.ss_size = sizeof stack;
+    there.uc_link = &here;
+    makecontext(&there, call, 0);
+    if (swapcontext(&here, &there) != 0)
+        return;
+    while (i < sizeof stack && stack[i] == FILL)
+        i++;
+    if (sizeof stack - i > deepest[which])
+        deepest[which] = sizeof stack - i;
+}
+
+static void results(void)
+{
+    uint64_t i;
+    for (i = 0; i < reply.count; i++) {
+        put_cell(list, 4 * (size_t)i, WZ_INT);
+        put_cell(list, 4 * (size_t)i + 1, below(3));
+        put_cell(list, 4 * (size_t)i + 2, below(20) == 0 ? 1 + below(5) : 0);
+        put_cell(list, 4 * (size_t)i + 3, 0);
+    }
+    bytes = (size_t)reply.count * WZ_RESULT;
+}
+
+/* The answer to the last reply. */
+static void answer(void)
+{
+    bytes = 0;
+    switch (reply.kind) {
+    case WZ_CONNECT: kind = below(4) == 0 ? WZ_NOT_OPENED : WZ_OPENED; break;
+    case WZ_VERSION:
+        kind = WZ_VERSION_IS;
+        number = 1 + (below(50) == 0);
+        memcpy(list, settings, sizeof settings);
+        bytes = sizeof settings;
+        break;
+    case WZ_READ:
+    case WZ_READ_BACK:
+        kind = below(60) == 0 ? WZ_LOST : WZ_RESULTS;
+        results();
+        break;
+    case WZ_WRITE:
+        number = 4;
+        kind = below(30) == 0 ? WZ_LOST : below(4) == 0 ? WZ_WRITE_REFUSED : WZ_WRITTEN;
+        break;
+    case WZ_DESCRIBE: kind = WZ_NOT_DESCRIBED; break;
+    case WZ_WAIT:
+        kind = WZ_WAITED;
+        clock_now += reply.seconds;
+        break;
+    default: kind = WZ_TAKEN; break;
+    }
+}
+
+/* Words and a bit of each, in groups and without one, in all three tiers. */
+static void made(void)
+{
+    uint32_t end = 0;
+    int i;
+    for (i = 0; i < WZ_TAGS; i++) {
+        char name[16];
+        int length = snprintf(name, sizeof name, i % 2 ? "T%02d.5" : "T%02d", i / 2);
+        memcpy(names + end, name, (size_t)length);
+        end += (uint32_t)length;
+        ends[i] = end;
+        put_cell(settings, (size_t)(4 * i + 1), (uint64_t)(i % 17)); /* a group, or none */
+        put_cell(settings, (size_t)(4 * i + 2), 500);
+        panel[1 + i] = (uint8_t)i;
+        panel[1 + WZ_TAGS + i] = (uint8_t)(1 + i % 3);
+    }
+    panel[0] = WZ_TAGS;
+}
+
+static void history(void)
+{
+    int i;
+    measured(CREATE);
+    measured(LOAD);
+    kind = WZ_BEGIN;
+    for (i = 0; i < 20000; i++) {
+        measured(STEP);
+        if (reply.code != 0 || reply.kind == WZ_STOPPED)
+            break;
+        answer();
+        tag = below(WZ_TAGS);
+        tier = below(4);
+        if (i % 5 == 0)
+            measured(SET_TIER);
+        if (i % 7 == 0 || below(40) == 0)
+            measured(WRITE);
+        if (i % 11 == 0)
+            measured(GROUPS + (int)below(CALLS - GROUPS));
+    }
+    measured(STOP);
+}
+
+int main(void)
+{
+    size_t most = 0;
+    int i;
+    made();
+    history();
+    if (reply.code != 0) {
+        printf("a step was refused with %d\n", (int)reply.code);
+        return 1;
+    }
+    for (i = 0; i < CALLS; i++) {
+        printf("%-16s %6lu bytes of stack\n", called[i], (unsigned long)deepest[i]);
+        most = deepest[i] > most ? deepest[i] : most;
+    }
+    if (most == 0 || most > STACK_LIMIT) {
+        printf("not between 1 and %d\n", STACK_LIMIT);
+        return 1;
+    }
+    return 0;
+}
