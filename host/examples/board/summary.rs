@@ -35,5 +35,9 @@ pub fn summary<W: Write>(screen: &mut Screen<W>, boards: &[Board; 2]) -> io::Res
 }
 
 fn range(range: &Option<RangeInclusive<usize>>) -> String {
-    range.as_ref().map_or("none".to_owned(), |r| format!("{} to {}", r.start(), r.end()))
+    match range {
+        None => "none".to_owned(),
+        Some(r) if r.start() == r.end() => r.start().to_string(),
+        Some(r) => format!("{} to {}", r.start(), r.end()),
+    }
 }
