@@ -8,7 +8,7 @@ use example::options::parse;
 use example::picture::Screen;
 use example::run::{Plan, run, whole};
 use example::turns::{Mark, Round, Tally, Turn, Turns, Watch, slices};
-use wordzike::{Answer, Engine, Error, ErrorKind, Event, Options, Reply, Request, Setting, Value};
+use wordzike::{Answer, Engine, Error, ErrorKind, Event, Group, Options, Reply, Request, Setting, Value};
 
 /// A boundary round over a table in which tag 0 is in tier 1, 1 to 4 are in tier 2 and 5 is in tier 3.
 fn round(list: &[u32]) -> Round {
@@ -162,6 +162,47 @@ fn empty_boundary_rounds_are_seen() {
     assert!(small.turns.len() >= 4);
     assert!(small.turns.iter().all(|turn| turn.wrong.is_empty() && turn.named == 4));
     assert!(small.turns.iter().any(|turn| turn.held == 4));
+}
+
+/// A read of a round that is no boundary is answered so late that the next round follows in the same step; that one is a
+/// boundary, and has nothing to read.
+#[test]
+fn a_version_is_not_taken_for_that_of_the_read_before() {
+    let options = Options { cycle: 1.0, period: 1.0, grace: 0.0 };
+    let settings = [Setting { group: Some(Group { number: 0, rate: 250 }), described: true, ..Setting::default() }];
+    let mut engine = Engine::new(&["A"], options, &settings, &[]).unwrap();
+    let mut watch = Watch::new(&options, 1);
+    engine.set_tier(0.0, 0, 1).unwrap();
+    let absent = [Err(Error { kind: ErrorKind::NotFound, message: 0 })];
+    let version = Answer::Version(None, &settings);
+    let first = [Answer::Begin, Answer::Opened, version, Answer::Taken, Answer::Results(&[]), version];
+    let answers = first.map(|answer| (0.0, answer)).into_iter();
+    let late = [(0.25, Answer::Waited), (1.25, Answer::Results(&absent)), (1.25, Answer::Taken)];
+    let mut replies = Vec::new();
+    for (clock, answer) in answers.chain(late) {
+        let reply = engine.step(clock, (clock * 1000.0) as i64, answer).unwrap();
+        watch.replied(&engine, 1, &reply);
+        replies.push(reply);
+    }
+    assert_eq!(replies[6], Reply::Request(Request::Read(vec![0])));
+    assert_eq!(replies[8], Reply::Request(Request::Version));
+    assert_eq!((watch.rounds, watch.boundaries), (3, 2));
+}
+
+#[test]
+fn a_lost_read_of_due_tags_alone_ends_the_turn() {
+    let mut small = Small::new();
+    for tag in 0..4 {
+        small.engine.set_tier(0.0, tag, 1).unwrap();
+    }
+    let begun = small.step(Answer::Begin);
+    let mut list = small.until_read(begun);
+    list = small.read(&list, &[]);
+    assert_eq!((list.len(), small.watch.turns.rounds()), (4, 0));
+    list = small.read(&list, &[]);
+    assert_eq!((list.len(), small.watch.turns.rounds()), (4, 1));
+    assert_eq!(small.watch.read_lost(), None);
+    assert_eq!(small.watch.turns.rounds(), 0);
 }
 
 fn output(seed: u64, seconds: u64) -> (String, [u64; 4]) {

@@ -23,6 +23,9 @@ pub fn wall(now: Micros) -> i64 {
 pub struct Totals {
     pub changes: u64,
     pub bad: u64,
+    /// Descriptions asked for, and those that there are.
+    pub asked: u64,
+    pub described: u64,
     pub written: u64,
     pub refused: u64,
     pub lost: u64,
@@ -156,8 +159,12 @@ impl Board {
                 self.notes.push(format!("{} {with}", word(state)).trim_end().to_owned());
             }
             Event::Meta => self.notes.push("the station's tag table has changed".to_owned()),
-            // descriptions are looked at when they are shown, so there is nothing to do
-            Event::Info(_) => {}
+            Event::Info(tags) => {
+                let has =
+                    |tag: &&u32| self.engine.tag(**tag).is_ok_and(|look| matches!(look.description, Some(Some(_))));
+                self.totals.asked += tags.len() as u64;
+                self.totals.described += tags.iter().filter(has).count() as u64;
+            }
             Event::Outcome(tag, outcome) => self.outcome(tag, outcome),
             Event::Failed(tags) => {
                 self.totals.failed += tags.len() as u64;

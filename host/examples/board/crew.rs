@@ -19,7 +19,7 @@ pub struct Crew {
     next: Micros,
 }
 
-/// The panel lists at the start: a count, the tags, their tiers. Slots are polled by turns, but for a few express trains
+/// The panel lists at the start: a count, the tags, their tiers. Slots are polled by turns, but for a few expresses
 /// (tier 1) and some that are parked (tier 3); of the track the boosters are watched.
 pub fn panels(slots: &Board, track: &Board) -> [Vec<u8>; 2] {
     let slot = |tag: u32| match slots.directory.device(tag) {
@@ -112,8 +112,8 @@ impl Crew {
         Ok(())
     }
 
-    /// The blocks of a section are watched closely, or no longer: then they are polled by turns, or after their grace not
-    /// at all until they are asked for.
+    /// The blocks of a section are watched closely, or no longer: then they are polled by turns, or not at all once
+    /// their grace is over.
     fn watch_section(&mut self, now: Micros, track: &mut Board) -> Result<(), Refusal> {
         let (section, tier) = match self.section.take() {
             Some(section) => (section, if self.random.once_in(2) { 3 } else { 2 }),

@@ -7,7 +7,7 @@ A simulated command station, two engines that poll it, and the operator's board.
 
   --seconds N  simulated seconds, run at once (default 120)
   --pace       at the pace of the wall clock
-  --seed N     another run (default 1); the same seed gives the same run
+  --seed N     another run (default 5); the same seed gives the same run
   --every N    simulated seconds between pictures where the output isn't a terminal (default 30)
   --help       this text
 
@@ -23,7 +23,7 @@ pub struct Choice {
 }
 
 pub fn parse(words: impl IntoIterator<Item = String>) -> Result<Choice, String> {
-    let mut choice = Choice { seconds: 120, seed: 1, every: 30, pace: false, help: false };
+    let mut choice = Choice { seconds: 120, seed: 5, every: 30, pace: false, help: false };
     let mut words = words.into_iter();
     while let Some(word) = words.next() {
         match word.as_str() {

@@ -209,7 +209,7 @@ impl Station {
     /// A line breaks when its time has come, and once in a while under a write.
     fn breaks(&mut self, now: Micros, line: usize, request: &Request) -> bool {
         let writing = !matches!(request, Request::Read(_));
-        if now < self.lines[line].next_loss && !(writing && self.random.once_in(25)) {
+        if now < self.lines[line].next_loss && !(writing && self.random.once_in(40)) {
             return false;
         }
         self.lines[line] =

@@ -22,6 +22,7 @@ pub fn summary<W: Write>(screen: &mut Screen<W>, boards: &[Board; 2]) -> io::Res
         screen.line(&format!("  in a turn    {} named, of {} in tier 2", range(&turns.named), range(&turns.tier2)))?;
         screen.line(&format!("  wrong turns  {}", turns.wrong))?;
         screen.line(&format!("  changes      {} told, {} of them bad readings", totals.changes, totals.bad))?;
+        screen.line(&format!("  descriptions {} asked for, {} found", totals.asked, totals.described))?;
         screen.line(&format!(
             "  writes       {} written, {} refused, {} lost, {} failed with the connection, {} left, {} not taken",
             totals.written, totals.refused, totals.lost, totals.failed, totals.left, totals.not_taken

@@ -175,6 +175,7 @@ impl Tally {
 /// Finds the rounds, and the boundaries among them, in what an engine asks for.
 pub struct Watch {
     pub turns: Turns,
+    /// A round that reads nothing and is no boundary isn't seen.
     pub rounds: u64,
     pub boundaries: u64,
     /// The round whose boundary isn't known yet, and the statistics' last round when it began.
