@@ -2,6 +2,8 @@
 //! and says what changed. The engine is proved code in an archive that `rt staticlib capi` writes; this crate is a safe
 //! wrapper over it. `WORDZIKE_LIB` names the archive if it is elsewhere than `target/staticlib/libcapi.a`.
 //!
+//! `docs/HOST.md` is a guide for hosts, and `examples/board` is one.
+//!
 //! The host does all input and output. [`Engine::step`] takes one answer, and gives one request or one event:
 //!
 //! ```
