@@ -13,9 +13,9 @@ counted() {
     valgrind --tool=callgrind --callgrind-out-file=/dev/null --toggle-collect='wz_*' "$program" bench ours "$1" "$tags" "$2" 2>"$tmp" >/dev/null
     sed -n 's/.*Collected : //p' "$tmp"
 }
-echo "| $tags tags | Instructions of a round |"
+echo "| $tags tags | Instructions of a round, or of a call |"
 echo "|---|---|"
-for case in ints floats within still half two groups writes; do
+for case in ints floats within still half two groups writes calls graces; do
     # what comes before the rounds is in both
     a=$(counted $case $few)
     b=$(counted $case $many)

@@ -314,8 +314,30 @@ pub(super) fn run(rounds: u64) {
     );
 }
 
+/// Tier calls on one side alone.
+fn calls_alone(side: &str, names: &[String], grace: f64, count: usize) -> Duration {
+    let head = plain(names, CYCLE, PERIOD, grace);
+    let worker = host_rust::worker(&head, host_rust::rules(&head));
+    let mut lent = Lent::new();
+    lent.create(&Handed::new(&head));
+    let begun = used();
+    for (tag, tier) in some_calls(names.len(), count) {
+        match side {
+            "rust" => worker.set_tier(&names[tag], (tier > 0).then_some(tier)),
+            _ => lent.set_tier(0.0, tag, tier),
+        }
+    }
+    used() - begun
+}
+
 /// One case on one side alone, for a profiler.
 pub(super) fn one(side: &str, case: &str, tags: usize, count: u64) {
+    if let "calls" | "graces" = case {
+        let grace = if case == "graces" { 10.0 } else { 0.0 };
+        let took = calls_alone(side, &some_names(tags), grace, count as usize);
+        println!("{:.3} µs each", took.as_secs_f64() * 1e6 / count.max(1) as f64);
+        return;
+    }
     let mut all = ROUNDS.iter().chain([&WRITES, &START]);
     let case = all.find(|c| c.name == case).unwrap_or_else(|| bad("case", case));
     let plan = plan(case, &some_names(tags));
