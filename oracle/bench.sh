@@ -1,7 +1,7 @@
 #!/bin/sh
 # Times the exported functions beside the Rust's worker, and prints docs/PERFORMANCE.md's tables: bench.sh [FOLDER] [ROUNDS]
 #   FOLDER  the Rust's sources, as for build.sh
-#   ROUNDS  how many rounds a repetition (default 4000)
+#   ROUNDS  how many rounds a repetition (default 3000)
 #   OUT     as for build.sh
 #   CAPI    an archive to time instead of the one that `rt staticlib capi` proves and writes
 set -eu
@@ -14,4 +14,4 @@ if [ -z "$archive" ]; then
     archive=$top/target/staticlib/libcapi.a
 fi
 program=$(CAPI=$archive "$here/build.sh" "$folder")
-exec "$program" bench "${2:-4000}"
+exec "$program" bench "${2:-3000}"

@@ -5,8 +5,9 @@
 set -eu
 program=$1
 tags=${2:-120}
-few=100
-many=300
+# many tier calls fill the table first
+few=1000
+many=2000
 tmp=$(mktemp)
 trap 'rm -f "$tmp"' EXIT
 counted() {

@@ -1290,7 +1290,7 @@ impl PlcWorker {
                 bench::one(side, case, num(tags), num(count));
             }
             #[cfg(feature = "capi")]
-            ["bench", ref rest @ ..] if known && rest.len() < 2 => bench::run(rest.first().map_or(4000, |t| num(t))),
+            ["bench", ref rest @ ..] if known && rest.len() < 2 => bench::run(rest.first().map_or(3000, |t| num(t))),
             _ => {
                 eprintln!("{USAGE}");
                 std::process::exit(2);
