@@ -308,10 +308,8 @@ pub(super) fn run(rounds: u64) {
     host(rounds);
     growth(&mut both, rounds);
     memory(&mut both.lent);
-    let Both { rounds, asked, told, .. } = both;
-    println!(
-        "\nCompared: {rounds} rounds, starts and writes, {asked} tags asked for, {told} changes told, none differ."
-    );
+    let [rounds, asked, told] = [both.rounds, both.asked, both.told].map(|n| commas(n as f64));
+    println!("\nCompared: {rounds} rounds and writes, {asked} tags asked for, {told} changes told, none differ.");
 }
 
 /// Tier calls on one side alone.
