@@ -4,7 +4,7 @@
 #           src--crates--ciplink-server--src--worker.rs.txt (default: ../shared/docs/src, seen from the repository's top)
 #   OUT     where to build (default: target/oracle in the repository); the program is $OUT/oracle
 #   LEAVES  an archive of the leaves (libleaves.a): the program then has the commands `leaves` and `rounds`
-#   CAPI    an archive of the entry points (libcapi.a): the program then has the commands `port`, `differ` and `record`
+#   CAPI    an archive of the entry points (libcapi.a): the program then has the commands `port`, `differ`, `record` and `bench`
 set -eu
 here=$(cd "$(dirname "$0")" && pwd)
 top=$(dirname "$here")
@@ -90,7 +90,7 @@ put "$out/new" "$tree/src/slices.rs"
 
 put "$here/driver/main.rs" "$tree/src/main.rs"
 put "$here/driver/worker_tests.rs" "$tree/src/worker_tests.rs"
-for f in gen names inputs lists leaves rounds differ record refusals tape; do
+for f in gen names inputs lists leaves rounds timing differ record refusals tape bench script host_rust host_ours sizes; do
     put "$here/driver/$f.rs" "$tree/src/$f.rs"
 done
 put "$here/Cargo.toml" "$tree/Cargo.toml"

@@ -2,7 +2,7 @@
 //! archive, on the same table. In each case the two go through the same calls; the lists, ticks and boundaries of the
 //! first rounds are compared, then both are timed by turns, in processor time of this thread.
 
-use super::generate::Rng;
+use super::timing::{Best, CYCLE, PERIOD, shuffled, some_calls, some_names, used};
 use super::*;
 use std::hint::black_box;
 
@@ -233,20 +233,6 @@ impl Both {
 
 // ------------------------------------------------------------------------------------------ the cases
 
-/// Words, some of their bits, and other tags; both cases.
-fn some_names(count: usize) -> Vec<String> {
-    let mut names: Vec<String> = (0..count)
-        .map(|i| match i % 4 {
-            0 => format!("Line{}.Motor{i:03}.Speed", i % 7),
-            1 => format!("line{}.motor{i:03}.Current", i % 7),
-            2 => format!("Line{}.Status{i:03}", i % 7),
-            _ => format!("Line{}.Status{:03}.{}", (i - 1) % 7, i - 1, i % 32),
-        })
-        .collect();
-    names.sort();
-    names
-}
-
 #[derive(Clone, Copy, PartialEq)]
 enum Tiers {
     One,
@@ -269,34 +255,9 @@ const CASES: [(&str, Tiers); 5] = [
 /// Rounds compared in each case before it is timed.
 const COMPARED: usize = 5_000;
 const REPETITIONS: usize = 9;
-const CYCLE: f64 = 1.0;
-const PERIOD: f64 = 10.0;
 
-/// Processor time of this thread so far. Others' work on the machine doesn't count, as it would in time passed.
-fn used() -> Duration {
-    const THREAD: i32 = 3;
-    let mut at = Timespec { sec: 0, nsec: 0 };
-    assert_eq!(unsafe { clock_gettime(THREAD, &mut at) }, 0);
-    Duration::new(at.sec as u64, at.nsec as u32)
-}
-
-/// The best time of several repetitions in nanoseconds, the two by turns.
-#[derive(Clone, Copy)]
-struct Best(f64, f64);
-
-impl Best {
-    fn new() -> Best {
-        Best(f64::INFINITY, f64::INFINITY)
-    }
-
-    fn take(&mut self, rust: Duration, ours: Duration, count: usize) {
-        let each = |d: Duration| d.as_secs_f64() * 1e9 / count as f64;
-        *self = Best(self.0.min(each(rust)), self.1.min(each(ours)));
-    }
-
-    fn say(&self, what: &str) {
-        println!("{what:<46} {:>9.0} {:>9.0} {:>12.2}", self.0, self.1, self.0 / self.1);
-    }
+fn say(best: &Best, what: &str) {
+    println!("{what:<46} {:>9.0} {:>9.0} {:>12.2}", best.0, best.1, best.ratio());
 }
 
 fn differs(what: &str, how: &str) -> ! {
@@ -308,8 +269,7 @@ fn time_set_tier(names: &[String], what: &str, grace: f64, calls: usize) {
     let mut both = Both::new(&plain(names, CYCLE, PERIOD, grace));
     both.now = 5.0;
     CLOCK.store(both.now.to_bits(), Ordering::Relaxed);
-    let mut r = Rng::new(1);
-    let some: Vec<(usize, u8)> = (0..calls).map(|_| (r.below(names.len() as u64) as usize, r.below(4) as u8)).collect();
+    let some = some_calls(names.len(), calls);
     let mut best = Best::new();
     for _ in 0..REPETITIONS {
         let begun = used();
@@ -326,7 +286,7 @@ fn time_set_tier(names: &[String], what: &str, grace: f64, calls: usize) {
             differs(what, "the tables are not the same");
         }
     }
-    best.say(what);
+    say(&best, what);
 }
 
 /// How many tags the rounds compared have listed.
@@ -340,11 +300,7 @@ fn time_rounds(names: &[String], what: &str, tiers: Tiers, rounds: usize) -> usi
         }
     }
     let mut both = Both::new(&head);
-    let mut tags: Vec<usize> = (0..n).collect();
-    let mut r = Rng::new(1);
-    for i in (1..n).rev() {
-        tags.swap(i, r.below(i as u64 + 1) as usize);
-    }
+    let tags = shuffled(n);
     for (i, tag) in tags.iter().enumerate() {
         let tier = match tiers {
             Tiers::One | Tiers::Grouped => 1,
@@ -397,7 +353,7 @@ fn time_rounds(names: &[String], what: &str, tiers: Tiers, rounds: usize) -> usi
             differs(what, "after the rounds that were timed");
         }
     }
-    best.say(&format!("round, {what}"));
+    say(&best, &format!("round, {what}"));
     listed
 }
 

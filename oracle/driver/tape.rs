@@ -148,7 +148,7 @@ type Mem = *mut u8;
 type Bytes = *const u8;
 
 unsafe extern "C" {
-    fn __real_wz_create(
+    pub(super) fn __real_wz_create(
         mem: Mem,
         n: usize,
         names: Bytes,
@@ -163,11 +163,11 @@ unsafe extern "C" {
         groups: Bytes,
         groups_len: usize,
     ) -> u32;
-    fn __real_wz_set_tier(mem: Mem, n: usize, clock: f64, tag: u32, tier: u32) -> u32;
+    pub(super) fn __real_wz_set_tier(mem: Mem, n: usize, clock: f64, tag: u32, tier: u32) -> u32;
     fn __real_wz_load(mem: Mem, n: usize, clock: f64, list: Bytes, list_len: usize) -> u32;
-    fn __real_wz_write(mem: Mem, n: usize, tag: u32, kind: u64, word: u64) -> u32;
-    fn __real_wz_stop(mem: Mem, n: usize) -> u32;
-    fn __real_wz_step(
+    pub(super) fn __real_wz_write(mem: Mem, n: usize, tag: u32, kind: u64, word: u64) -> u32;
+    pub(super) fn __real_wz_stop(mem: Mem, n: usize) -> u32;
+    pub(super) fn __real_wz_step(
         mem: Mem,
         n: usize,
         clock: f64,
@@ -184,7 +184,7 @@ unsafe extern "C" {
     fn __real_wz_stats(mem: Bytes, n: usize) -> ffi::StatsLook;
     fn __real_wz_tier_counts(mem: Bytes, n: usize) -> ffi::CountsLook;
     fn __real_wz_group_stats(mem: Bytes, n: usize, out: Mem, out_len: usize) -> ffi::ListLook;
-    fn __real_wz_table(mem: Bytes, n: usize, out: Mem, out_len: usize) -> ffi::ListLook;
+    pub(super) fn __real_wz_table(mem: Bytes, n: usize, out: Mem, out_len: usize) -> ffi::ListLook;
     fn __real_wz_panel(mem: Bytes, n: usize, out: Mem, out_len: usize) -> ffi::ListLook;
     fn __real_wz_tag(mem: Bytes, n: usize, tag: u32) -> ffi::TagLook;
 }

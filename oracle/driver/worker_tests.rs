@@ -14,10 +14,19 @@ use std::panic::{AssertUnwindSafe, catch_unwind, resume_unwind};
 use std::sync::atomic::{AtomicI64, AtomicU64};
 
 #[cfg(feature = "capi")]
+#[path = "bench.rs"]
+mod bench;
+#[cfg(feature = "capi")]
 #[path = "differ.rs"]
 mod differ;
 #[path = "gen.rs"]
 mod generate;
+#[cfg(feature = "capi")]
+#[path = "host_ours.rs"]
+mod host_ours;
+#[cfg(feature = "capi")]
+#[path = "host_rust.rs"]
+mod host_rust;
 #[path = "inputs.rs"]
 mod inputs;
 #[cfg(feature = "leaves")]
@@ -37,8 +46,16 @@ mod refusals;
 #[path = "rounds.rs"]
 mod rounds;
 #[cfg(feature = "capi")]
+#[path = "script.rs"]
+mod script;
+#[cfg(feature = "capi")]
+#[path = "sizes.rs"]
+mod sizes;
+#[cfg(feature = "capi")]
 #[path = "tape.rs"]
 mod tape;
+#[path = "timing.rs"]
+mod timing;
 
 const PLC: &str = "plc";
 const CLOCK_LIMIT: f64 = 1e9;
@@ -1217,11 +1234,12 @@ fn replay_text(text: &str, single: bool) -> String {
 // ------------------------------------------------------------------------------------------ the program
 
 const USAGE: &str = "\
-oracle gen SEED N [PROFILE] | replay [--inner] | batch FIRST COUNT N [PROFILE] | cases | bench [TAGS]
+oracle gen SEED N [PROFILE] | replay [--inner] | batch FIRST COUNT N [PROFILE] | cases
 oracle lister | lists SEED [COUNT PROGRAM]
 --single, with the first three: each outcome that fail_writes tells is an event of its own
 built with the leaves' archive also: leaves SEED COUNT | rounds [TAGS] [ROUNDS]
 built with the entry points' archive also: port | differ FIRST COUNT N [PROFILE ...]
+| bench [ROUNDS] | bench rust|ours CASE TAGS COUNT
 | record PART ..., a part being refusals, board, backoff, again, PROFILE:FIRST:COUNT:N or a file with a history";
 
 impl PlcWorker {
@@ -1267,7 +1285,12 @@ impl PlcWorker {
             }
             #[cfg(feature = "capi")]
             ["record", ref parts @ ..] if known => record::run(parts),
-            ["bench", ref rest @ ..] if known => bench(rest.first().map_or(120, |t| num(t))),
+            #[cfg(feature = "capi")]
+            ["bench", side @ ("rust" | "ours"), case, tags, count] if known => {
+                bench::one(side, case, num(tags), num(count));
+            }
+            #[cfg(feature = "capi")]
+            ["bench", ref rest @ ..] if known && rest.len() < 2 => bench::run(rest.first().map_or(3000, |t| num(t))),
             _ => {
                 eprintln!("{USAGE}");
                 std::process::exit(2);
@@ -1531,91 +1554,4 @@ fn cases() {
     if failed > 0 {
         std::process::exit(1);
     }
-}
-
-/// Speed of the Rust: `cycle_tags` alone, and whole rounds through `run` with a host that answers at once.
-fn bench(count: usize) {
-    let names: Vec<String> = (0..count).map(|i| format!("Tag{i:03}")).collect();
-    for (what, tier1) in [("all in tier 1", count), ("half tier 1, half tier 2", count / 2)] {
-        CLOCK.store(0, Ordering::Relaxed);
-        let w = make(&plain(&names, 1.0, 10.0, 0.0));
-        for (i, name) in names.iter().enumerate() {
-            w.set_tier(name, Some(if i < tier1 { 1 } else { 2 }));
-        }
-        let begun = Instant::now();
-        let n = 20_000;
-        let mut listed = 0;
-        for i in 0..n {
-            listed += w.shared.cycle_tags(&mut lock(&w.shared.inner), f64::from(i)).0.len();
-        }
-        let s = begun.elapsed().as_secs_f64();
-        println!("cycle_tags, {count} tags, {what}: {:.0} rounds/s ({listed} tags listed)", f64::from(n) / s);
-    }
-    thread_local!(static LEFT: RefCell<(u64, u64)> = const { RefCell::new((0, 0)) });
-    struct Quick;
-    impl Plc for Quick {
-        fn open(&mut self) -> Result<(), String> {
-            Ok(())
-        }
-        fn close(&mut self) {}
-        fn read(&mut self, tags: &[&str]) -> Result<Vec<TagResult>, String> {
-            let n = LEFT.with(|l| l.borrow().0) as i64;
-            Ok(tags.iter().map(|t| Res::Val(Val::Int(n)).driver(t)).collect())
-        }
-        fn write(&mut self, _: &str, _: &Value) -> Result<TagResult, String> {
-            Err(LOST.into())
-        }
-        fn catalog(&mut self) -> Catalog {
-            Catalog::default()
-        }
-        fn version(&mut self) -> Json {
-            json!(1)
-        }
-        fn connection_size(&self) -> usize {
-            0
-        }
-    }
-    struct QuickTime;
-    impl FakeTime for QuickTime {
-        fn now(&self) -> f64 {
-            clock()
-        }
-        fn wait(&self, shared: &Shared, seconds: f64) -> bool {
-            CLOCK.store((clock() + seconds).to_bits(), Ordering::Relaxed);
-            LEFT.with(|l| {
-                let mut l = l.borrow_mut();
-                l.0 -= 1;
-                shared.stop.store(l.0 == 0, Ordering::SeqCst);
-                l.0 == 0
-            })
-        }
-    }
-    CLOCK.store(0, Ordering::Relaxed);
-    let head = plain(&names, 1.0, 10.0, 0.0);
-    let rules = Arc::new(Rules::scripted(&names, head.settings, &[]));
-    let w = PlcWorker::new(
-        PlcConfig::default(),
-        Arc::new(|_: &PlcConfig| Ok(Box::new(Quick) as Box<dyn Plc>)),
-        WorkerOptions { cycle: 1.0, tier2_period: 10.0, grace_s: 0.0, planner: false, whole_max_bytes: 1500 },
-        rules,
-        Arc::new(|event| {
-            if let Event::Values(_, v) = event {
-                LEFT.with(|l| l.borrow_mut().1 += v.len() as u64);
-            }
-        }),
-    );
-    lock(&w.shared.hooks).time = Some(Arc::new(QuickTime));
-    for name in &names {
-        w.set_tier(name, Some(1));
-    }
-    let rounds = 5_000u64;
-    LEFT.with(|l| *l.borrow_mut() = (rounds, 0));
-    let begun = Instant::now();
-    w.shared.run();
-    let s = begun.elapsed().as_secs_f64();
-    println!(
-        "whole rounds, {count} tags in tier 1, every value changed: {:.0} rounds/s ({} changes told)",
-        rounds as f64 / s,
-        LEFT.with(|l| l.borrow().1)
-    );
 }
