@@ -21,8 +21,10 @@ elif old; then
     echo "board.sh: rt proves the engine and writes its archive; from a fresh clone this takes some minutes" >&2
     (cd "$top" && rt staticlib capi) >&2
 fi
-said=$(cargo build --manifest-path "$here/Cargo.toml" --release --offline --quiet --example board 2>&1) || {
+# here cargo finds .cargo/config.toml, which keeps what it builds below target/
+cd "$here"
+said=$(cargo build --release --offline --quiet --example board 2>&1) || {
     echo "$said" >&2
     exit 1
 }
-exec cargo run --manifest-path "$here/Cargo.toml" --release --offline --quiet --example board -- "$@"
+exec cargo run --release --offline --quiet --example board -- "$@"
