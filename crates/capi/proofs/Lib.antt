@@ -2,3 +2,4 @@
 pub mod Laws
 pub mod CallLaws
 pub mod LookLaws
+pub mod Said

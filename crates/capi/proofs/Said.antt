@@ -1,0 +1,115 @@
+-- What the contract of each entry point says, spelt out: `X-said` of the entry point X. `Learnt` is the reading of its `ensures`: at the lifetimes, the arguments, the
+-- result, and the parameters at exit. A contract that says less is refused here, beside the code that it is the contract of.
+use mathlib.Core.Path.{_≡_}
+use mathlib.Core.List.{List}
+use Prim.Native.Nat.{ℕ}
+use contract.Lifetimes.{Lfts}
+use denote.Ref.{RefT}
+use lib.Ieee.{Float}
+use lib.IntN.{ℤ}
+use lib.ListN.{length}
+use Rattle.words.specs.Value.{valueFrom}
+use Rattle.lent.specs.Lent.{wroteAll, records}
+use Rattle.board.specs.Board.{rowCells}
+use Rattle.worker.specs.Worker.{Worker, at, Told}
+use Rattle.worker.specs.Answers.{step}
+use Rattle.worker.specs.Reply as reply
+use Rattle.worker.specs.declared.reply.Reply.{Reply}
+use Rattle.capi.specs.Memory.{memorySize, workerIn, Called}
+use Rattle.capi.specs.Calls.{tierCheck, tiered, loadCheck, loaded, writeCheck, wrote, halted, answerOf, Stepped}
+use Rattle.capi.specs.Creation.{Setup, creationCheck, freshWorker}
+use Rattle.capi.specs.Looks.{stateLook, statsLook, countsLook, listed, leftIn, groupCells, groupCount, groupCheck, tableCount, tableCheck, panelBytes, panelCount, panelCode, panelLeft, tagLook}
+use Rattle.capi.specs.declared.looks.StateLook.{StateLook}
+use Rattle.capi.specs.declared.looks.StatsLook.{StatsLook}
+use Rattle.capi.specs.declared.looks.CountsLook.{CountsLook}
+use Rattle.capi.specs.declared.looks.ListLook.{ListLook}
+use Rattle.capi.specs.declared.looks.TagLook.{TagLook}
+use Rattle.capi.proofs.creation.wz_create.Reads as create-contract
+use Rattle.capi.proofs.calls.wz_set_tier.Reads as tier-contract
+use Rattle.capi.proofs.calls.wz_load.Reads as load-contract
+use Rattle.capi.proofs.calls.wz_write.Reads as write-contract
+use Rattle.capi.proofs.calls.wz_stop.Reads as stop-contract
+use Rattle.capi.proofs.calls.wz_step.Reads as step-contract
+use Rattle.capi.proofs.looks.wz_state.Reads as state-contract
+use Rattle.capi.proofs.looks.wz_stats.Reads as stats-contract
+use Rattle.capi.proofs.looks.wz_tier_counts.Reads as counts-contract
+use Rattle.capi.proofs.looks.wz_group_stats.Reads as groups-contract
+use Rattle.capi.proofs.looks.wz_table.Reads as table-contract
+use Rattle.capi.proofs.looks.wz_panel.Reads as panel-contract
+use Rattle.capi.proofs.looks.wz_tag.Reads as tag-contract
+
+-- ---- what a call comes to, with no definition of this crate between a reader and the bytes
+
+-- A call whose checks came to n: memory of another length is answered with 100; otherwise the answer is n, and where it is 0 the memory holds the engine W;
+-- where it is not 0 every byte is as it was.
+pub called-said : (old new : List ℕ) (r n : ℕ) (W : Worker) → Called old new r n W
+    → ((length old ≡ 38400 → ⊥) → r ≡ 100) × (length old ≡ 38400 → r ≡ n) × (length old ≡ 38400 → n ≡ 0 → workerIn new ≡ W)
+    × ((r ≡ 0 → ⊥) → new ≡ old) × (length new ≡ length old)
+called-said old new r n W h = (h .alien, h .code, h .done, h .kept, h .long)
+
+-- The same of a step that came to T, with its lent list: the first bytes are T's, all behind them are as they were.
+pub stepped-said : (old new : List ℕ) (r : Reply) (out out' : List ℕ) (T : Told) → Stepped old new r out out' T
+    → ((length old ≡ 38400 → ⊥) → r ≡ reply.refused 100) × (length old ≡ 38400 → r ≡ T .reply) × (length old ≡ 38400 → workerIn new ≡ T .left)
+    × (length old ≡ 38400 → out' ≡ wroteAll out (T .cells)) × ((r .code ≡ 0 → ⊥) → (new ≡ old) × (out' ≡ out)) × (length new ≡ length old)
+stepped-said old new r out out' T h = (h .alien, h .reply-is, h .left-is, h .out-is, h .kept, h .long)
+
+-- ---- calls
+
+abbrev setup : List ℕ → List ℕ → Float → Float → Float → List ℕ → List ℕ → Setup
+setup names ends cycle period grace settings groups = record { names = names; ends = ends; options = record { cycle = cycle; period = period; grace = grace }; settings = settings; groups = groups }
+
+pub create-said : (κs : Lfts 4) (mem mem' names ends settings groups : RefT (List ℕ)) (cycle period grace : Float) (r : ℕ)
+    → create-contract.Learnt κs (mem, (names, (ends, (cycle, (period, (grace, (settings, (groups, tt)))))))) r (mem', (names, (ends, (cycle, (period, (grace, (settings, (groups, tt))))))))
+    → Called (mem .now) (mem' .now) r (creationCheck (setup (names .now) (ends .now) cycle period grace (settings .now) (groups .now)))
+    (freshWorker (setup (names .now) (ends .now) cycle period grace (settings .now) (groups .now)))
+create-said κs mem mem' names ends settings groups cycle period grace r h = h
+
+pub tier-said : (κs : Lfts 1) (mem mem' : RefT (List ℕ)) (clock : Float) (tag to r : ℕ) → tier-contract.Learnt κs (mem, (clock, (tag, (to, tt)))) r (mem', (clock, (tag, (to, tt))))
+    → Called (mem .now) (mem' .now) r (tierCheck (workerIn (mem .now)) clock tag to) (tiered (workerIn (mem .now)) clock tag to)
+tier-said κs mem mem' clock tag to r h = h
+
+pub load-said : (κs : Lfts 2) (mem mem' list : RefT (List ℕ)) (clock : Float) (r : ℕ) → load-contract.Learnt κs (mem, (clock, (list, tt))) r (mem', (clock, (list, tt)))
+    → Called (mem .now) (mem' .now) r (loadCheck (workerIn (mem .now)) clock (list .now)) (loaded (workerIn (mem .now)) clock (list .now))
+load-said κs mem mem' list clock r h = h
+
+pub write-said : (κs : Lfts 1) (mem mem' : RefT (List ℕ)) (tag kind word r : ℕ) → write-contract.Learnt κs (mem, (tag, (kind, (word, tt)))) r (mem', (tag, (kind, (word, tt))))
+    → Called (mem .now) (mem' .now) r (writeCheck (workerIn (mem .now)) tag (valueFrom kind word)) (wrote (workerIn (mem .now)) tag (valueFrom kind word))
+write-said κs mem mem' tag kind word r h = h
+
+pub stop-said : (κs : Lfts 1) (mem mem' : RefT (List ℕ)) (r : ℕ) → stop-contract.Learnt κs (mem, tt) r (mem', tt)
+    → Called (mem .now) (mem' .now) r 0 (halted (workerIn (mem .now)))
+stop-said κs mem mem' r h = h
+
+pub step-said : (κs : Lfts 3) (mem mem' list out out' : RefT (List ℕ)) (clock : Float) (wall : ℤ) (kind number message : ℕ) (r : Reply)
+    → step-contract.Learnt κs (mem, (clock, (wall, (kind, (number, (message, (list, (out, tt)))))))) r (mem', (clock, (wall, (kind, (number, (message, (list, (out', tt))))))))
+    → Stepped (mem .now) (mem' .now) r (out .now) (out' .now) (step (workerIn (mem .now)) (at clock wall) (answerOf kind number message (list .now)) (length (out .now)))
+step-said κs mem mem' list out out' clock wall kind number message r h = h
+
+-- ---- looks
+
+pub state-said : (κs : Lfts 1) (mem : RefT (List ℕ)) (r : StateLook) → state-contract.Learnt κs (mem, tt) r (mem, tt) → r ≡ stateLook (mem .now)
+state-said κs mem r h = h
+
+pub stats-said : (κs : Lfts 1) (mem : RefT (List ℕ)) (r : StatsLook) → stats-contract.Learnt κs (mem, tt) r (mem, tt) → r ≡ statsLook (mem .now)
+stats-said κs mem r h = h
+
+pub counts-said : (κs : Lfts 1) (mem : RefT (List ℕ)) (r : CountsLook) → counts-contract.Learnt κs (mem, tt) r (mem, tt) → r ≡ countsLook (mem .now)
+counts-said κs mem r h = h
+
+pub groups-said : (κs : Lfts 2) (mem out out' : RefT (List ℕ)) (r : ListLook) → groups-contract.Learnt κs (mem, (out, tt)) r (mem, (out', tt))
+    → (r ≡ listed (groupCheck (mem .now) (out .now)) (groupCount (workerIn (mem .now)) (out .now)))
+    × (out' .now ≡ leftIn (groupCheck (mem .now) (out .now)) (out .now) (groupCells (workerIn (mem .now))))
+groups-said κs mem out out' r h = h
+
+pub table-said : (κs : Lfts 2) (mem out out' : RefT (List ℕ)) (r : ListLook) → table-contract.Learnt κs (mem, (out, tt)) r (mem, (out', tt))
+    → (r ≡ listed (tableCheck (mem .now) (out .now)) (tableCount (workerIn (mem .now)) (out .now)))
+    × (out' .now ≡ leftIn (tableCheck (mem .now) (out .now)) (out .now) (records (rowCells (workerIn (mem .now) .board)) (workerIn (mem .now) .board .table .order)))
+table-said κs mem out out' r h = h
+
+pub panel-said : (κs : Lfts 2) (mem out out' : RefT (List ℕ)) (r : ListLook) → panel-contract.Learnt κs (mem, (out, tt)) r (mem, (out', tt))
+    → (r ≡ listed (panelCode (mem .now) (out .now)) (panelCount (workerIn (mem .now)) (out .now)))
+    × (out' .now ≡ panelLeft (panelCode (mem .now) (out .now)) (out .now) (panelBytes (workerIn (mem .now))))
+panel-said κs mem out out' r h = h
+
+pub tag-said : (κs : Lfts 1) (mem : RefT (List ℕ)) (tag : ℕ) (r : TagLook) → tag-contract.Learnt κs (mem, (tag, tt)) r (mem, (tag, tt)) → r ≡ tagLook (mem .now) tag
+tag-said κs mem tag r h = h
