@@ -14,10 +14,10 @@ use super::whole::NOT_AN_ENGINE;
 use super::whole::head_of;
 use super::whole::load_panel;
 use super::whole::push_write;
+use super::whole::put_clock;
 use super::whole::put_head;
 use super::whole::set_tier;
 use engine::link::stopped;
-use engine::with_clock;
 use engine::with_link;
 use words::value::value_from;
 use worker::checks::Answer;
@@ -38,9 +38,8 @@ pub extern "C" fn wz_set_tier(mem: &mut [u8], clock: f64, tag: u32, tier: u32) -
         return n;
     }
     let o = e.options;
-    let clocked = with_clock(e, clock);
     set_tier(mem, tag as u16, tier as u8, o.grace, clock);
-    put_head(mem, clocked);
+    put_clock(mem, clock);
     0
 }
 
@@ -58,9 +57,8 @@ pub extern "C" fn wz_load(mem: &mut [u8], clock: f64, list: &[u8]) -> u32
         return n;
     }
     let o = e.options;
-    let clocked = with_clock(e, clock);
     load_panel(mem, list, o.grace, clock);
-    put_head(mem, clocked);
+    put_clock(mem, clock);
     0
 }
 

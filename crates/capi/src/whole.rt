@@ -1,6 +1,7 @@
 // An engine's memory: the head in front, the board behind it. Each rule is lent its own part.
 ghost use mathlib.Core.Path.{_≡_};
 ghost use lib.ListN.{length};
+ghost use Rattle.engine.specs.Engine.{withClock};
 ghost use Rattle.tiers.specs.Tiers.{setTier};
 ghost use Rattle.panel.specs.Panel.{loadedList};
 ghost use Rattle.writes.specs.Queue.{queuedWith};
@@ -34,6 +35,13 @@ pub fn put_head(mem: &mut [u8], e: Engine)
     ensures { λ _. ⌜ workerIn (now (mem .exit)) ≡ worker e (workerIn (now (mem .entry)) .board) ⌝ }
 {
     store(&mut mem[0..256], e);
+}
+
+pub fn put_clock(mem: &mut [u8], clock: f64)
+    requires { ⌜ length (now mem) ≡ memorySize ⌝ }
+    ensures { λ _. ⌜ workerIn (now (mem .exit)) ≡ worker (withClock (workerIn (now (mem .entry)) .head) clock) (workerIn (now (mem .entry)) .board) ⌝ }
+{
+    engine::put_clock(&mut mem[0..256], clock);
 }
 
 pub fn set_tier(mem: &mut [u8], k: u16, tier: u8, grace: f64, clock: f64)

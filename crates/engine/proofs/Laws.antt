@@ -1,5 +1,5 @@
 -- Words that hold the head's parts hold the head, and what a stored row changes.
-use mathlib.Core.Path.{_≡_, refl, ap, sym, _∙_}
+use mathlib.Core.Path.{_≡_, refl, ap, sym, _∙_, subst}
 use mathlib.Core.Bool.{Bool, true, false, cond}
 use mathlib.Core.List.{List, [], _∷_}
 use Prim.Native.Nat.{ℕ, zero, suc, _/_, _%_, _<_, _≤_, min}
@@ -13,11 +13,11 @@ use mir.Syntax.{w64}
 use lib.Seq.{getD-set-same}
 use Rattle.ieee.specs.Round.{float}
 use Rattle.memory.specs.Cells.{rowsIn, noRow}
-use Rattle.memory.proofs.RowLaws.{length-rows, rows-kept}
+use Rattle.memory.proofs.RowLaws.{length-rows, rows-kept, row-long, spread, spread-is}
 use Rattle.versions.specs.Versions.{versionFrom}
 use Rattle.engine.specs.Link.{stateFrom, stateNumber}
 use Rattle.engine.specs.Progress.{phaseFrom, phaseNumber, afterFrom, afterNumber}
-use Rattle.engine.specs.Engine.{linkFrom, progressFrom, statsFrom, engineFrom, engineIn, stored, backoffAt}
+use Rattle.engine.specs.Engine.{linkFrom, progressFrom, statsFrom, engineFrom, engineIn, stored, withClock, backoffAt}
 use Rattle.engine.specs.declared.link.State.{State}
 use Rattle.engine.specs.declared.link.State.the-variants.{Connecting, Connected, Disconnected, Stopped}
 use Rattle.engine.specs.declared.link.Link.{Link}
@@ -100,6 +100,10 @@ unfolding engineFrom
 engine-coded x length period grace begun last clock count state stopping known number attempt phase after start tick boundary tag timed ms ts tags overruns reconnects reloads e1 e2 e3 e4 e5 e6 e7 e8 e9 e10 =
     rw (e8, e9, e10, e1, e2, e3, e4, e5, e6, e7)
 
+engine-at : (bs : List ℕ) → engineIn bs ≡ engineFrom (getD (rowsIn bs) 0 noRow)
+unfolding engineIn
+engine-at bs = refl
+
 pub engine-put : (old new w : List ℕ) (x : Engine) → length new ≡ length old → rowsIn new ≡ set (rowsIn old) 0 w → engineFrom w ≡ x → engineIn new ≡ stored old x
 unfolding engineIn stored
 engine-put old new w x same e c = go (ltb 0 (length old / 256)) refl
@@ -112,6 +116,20 @@ engine-put old new w x same e c = go (ltb 0 (length old / 256)) refl
     go false q =
         let none : length old / 256 ≤ 0 = ltb-false 0 (length old / 256) q in
         ap (λ (rs : List (List ℕ)). engineFrom (getD rs 0 noRow)) (e ∙ sym (rows-kept old w 0 none))
+
+-- the clock reading's cell replaced
+clock-put : (w : List ℕ) (v : ℕ) → length w ≡ 32 → engineFrom (set w 6 v) ≡ withClock (engineFrom w) (ofBits binary64 v)
+unfolding engineFrom spread
+clock-put w v h = subst (λ (r : List ℕ). engineFrom (set r 6 v) ≡ withClock (engineFrom r) (ofBits binary64 v)) (spread-is 32 w h) refl
+
+pub clock-stored : (old new : List ℕ) (v : ℕ) (clock : Float) → length new ≡ length old → rowsIn new ≡ set (rowsIn old) 0 (set (getD (rowsIn old) 0 noRow) 6 v)
+    → ofBits binary64 v ≡ clock → engineIn new ≡ stored old (withClock (engineIn old) clock)
+clock-stored old new v clock same e back =
+    let w = getD (rowsIn old) 0 noRow in
+    let coded : engineFrom (set w 6 v) ≡ withClock (engineIn old) clock =
+        clock-put w v (row-long old 0) ∙ ap (withClock (engineFrom w)) back ∙ ap (λ (x : Engine). withClock x clock) (sym (engine-at old))
+    in
+    engine-put old new (set w 6 v) (withClock (engineIn old) clock) same e coded
 
 pub backoff-early : (d : Float) (n : ℕ) → n < 3 → getD (float 1 ∷ float 2 ∷ float 5 ∷ float 10 ∷ []) n d ≡ backoffAt n
 backoff-early d zero h = refl

@@ -177,3 +177,11 @@ pub fn store(s: &mut [u8], x: Engine)
     let w = codec::engine_words(x);
     memory::rows::put_row(s, 0, w);
 }
+
+// The clock reading alone: a call that changes nothing else of the head need not store it whole.
+pub fn put_clock(s: &mut [u8], clock: f64)
+    ensures { λ _. ⌜ engineIn (now (s .exit)) ≡ stored (now (s .entry)) (withClock (engineIn (now (s .entry))) clock) ⌝ }
+{
+    let time = words::scalar::word_of_float(clock);
+    memory::rows::put_row_cell(s, 0, 6, time);
+}

@@ -111,3 +111,17 @@ module _ {ℓ κ} {A : Type ℓ} {B : Type κ} (f : A → B) where
   map-set [] k w = refl
   map-set (x ∷ l) zero w = refl
   map-set (x ∷ l) (suc k) w = ap (λ (r : List B). f x ∷ r) (map-set l k w)
+
+-- ---- a row, written out
+
+-- a list by its first n elements: what a definition reads of them computes
+unfoldable pub spread : ℕ → List ℕ → List ℕ
+spread zero w = []
+spread (suc n) w = getD w 0 0 ∷ spread n (drop 1 w)
+
+pub spread-is : (n : ℕ) (w : List ℕ) → length w ≡ n → spread n w ≡ w
+unfolding spread
+spread-is zero [] h = refl
+spread-is zero (x ∷ w) h = absurd (let z : _≡_ {A = ℕ} 0 1 = cc in omega arith)
+spread-is (suc n) [] h = absurd (let z : _≡_ {A = ℕ} 0 1 = cc in omega arith)
+spread-is (suc n) (x ∷ w) h = ap (λ (r : List ℕ). x ∷ r) (spread-is n w (omega arith))

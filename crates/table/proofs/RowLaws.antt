@@ -7,7 +7,7 @@ use lib.Dec.{ltb}
 use lib.Ieee.{binary64, ofBits}
 use lib.ListN.{length, getD, set, drop, length-map}
 use Rattle.memory.specs.Cells.{rowsIn, noRow}
-use Rattle.memory.proofs.RowLaws.{length-rows, map-at, map-set, row-long}
+use Rattle.memory.proofs.RowLaws.{length-rows, map-at, map-set, row-long, spread, spread-is}
 use Rattle.table.specs.Tag.{freshTag}
 use Rattle.table.specs.Row.{graceFrom, descriptionFrom, tagFrom}
 use Rattle.table.specs.Table.{tableIn, withLast, withAdded, withWants, withDescription, withAfter, withStanding, withoutLast, withoutReadings}
@@ -32,18 +32,7 @@ set-again f [] k a d = refl
 set-again f (x ∷ l) zero a d = refl
 set-again f (x ∷ l) (suc k) a d = ap (λ (r : List _). x ∷ r) (set-again f l k a d)
 
--- ---- a row, written out
-
-spread : ℕ → List ℕ → List ℕ
-spread zero w = []
-spread (suc n) w = getD w 0 0 ∷ spread n (drop 1 w)
-
-spread-is : (n : ℕ) (w : List ℕ) → length w ≡ n → spread n w ≡ w
-unfolding spread
-spread-is zero [] h = refl
-spread-is zero (x ∷ w) h = absurd (let z : _≡_ {A = ℕ} 0 1 = cc in omega arith)
-spread-is (suc n) [] h = absurd (let z : _≡_ {A = ℕ} 0 1 = cc in omega arith)
-spread-is (suc n) (x ∷ w) h = ap (λ (r : List ℕ). x ∷ r) (spread-is n w (omega arith))
+-- ---- a row with some cells replaced
 
 module _ (w : List ℕ) (h : length w ≡ 32) where
   pub added-put : (v : ℕ) → tagFrom (set w 8 v) ≡ withAdded (tagFrom w) (ltb 0 v)
