@@ -33,29 +33,26 @@ returns-2 c =
     (c .before .load-check .ensures ∙ ap (λ (x : Engine). loadCheck (worker x (workerIn bs .board)) (a .clock) (now (a .list))) (c .before .before .before .head-of .ensures))
     (c .if2 .taken)
 
-with-clock-requires : tie.Need-with-clock-requires
-with-clock-requires c κs = search needs
-
 load-panel-requires : tie.Need-load-panel-requires
 load-panel-requires c κs = search needs
 
-put-head-requires : tie.Need-put-head-requires
-put-head-requires c κs = search needs
+put-clock-requires : tie.Need-put-clock-requires
+put-clock-requires c κs = search needs
 
 same-length-2 : tie.Need-same-length-2
 same-length-2 c = search needs
 
 returns-3 : tie.Need-returns-3
 returns-3 c =
-    let a = c .before .before .before .before .before .before .before .before .before .before .before .before .before .before .before .before .before .before .args in
+    let a = c .before .before .before .before .before .before .before .before .before .before .before .before .before .before .before .before .args in
     let bs = now (a .mem) in
-    let e = c .before .before .before .before .before .before .before .before .before .before .before .before .before .head-of in
-    done-call bs _ _ _ (c .before .before .before .before .before .before .before .before .before .before .before .before .before .before .before .if1 .left)
-    (sym (c .before .before .before .before .before .before .before .before .before .before .if2 .left) ∙ c .before .before .before .before .before .before .before .before .before .before .before .load-check .ensures ∙ ap (λ (x : Engine). loadCheck (worker x (workerIn bs .board)) (a .clock) (now (a .list))) (e .ensures))
-    (c .before .before .put-head .ensures
-    ∙ ap (λ (x : Engine). worker x (workerIn (c .before .before .before .before .before .before .load-panel .last .0) .board)) (c .before .before .before .before .before .before .before .before .with-clock .ensures)
-    ∙ ap (λ (w : Worker). worker (withClock (e .result) (a .clock)) (w .board)) (c .before .before .before .before .before .before .load-panel .ensures)
-    ∙ ap (λ (x : Engine). worker (withClock x (a .clock)) (withTable (workerIn bs .board) (loadedList (workerIn bs .board .table) (now (a .list)) (x .options .grace) (a .clock)))) (e .ensures))
+    let e = c .before .before .before .before .before .before .before .before .before .before .before .head-of in
+    let clocked : Worker → Worker = λ w. worker (withClock (w .head) (a .clock)) (w .board) in
+    done-call bs _ _ _ (c .before .before .before .before .before .before .before .before .before .before .before .before .before .if1 .left)
+    (sym (c .before .before .before .before .before .before .before .before .if2 .left) ∙ c .before .before .before .before .before .before .before .before .before .load-check .ensures ∙ ap (λ (x : Engine). loadCheck (worker x (workerIn bs .board)) (a .clock) (now (a .list))) (e .ensures))
+    (c .before .before .put-clock .ensures
+    ∙ ap clocked (c .before .before .before .before .before .before .load-panel .ensures)
+    ∙ ap (λ (x : Engine). worker (withClock (workerIn bs .head) (a .clock)) (withTable (workerIn bs .board) (loadedList (workerIn bs .board .table) (now (a .list)) (x .options .grace) (a .clock)))) (e .ensures))
     (search needs)
 
 pub wz-load-spec : {M : Type 1} → statement M
@@ -67,8 +64,7 @@ wz-load-spec =
     load-check-requires
     same-length
     returns-2
-    with-clock-requires
     load-panel-requires
-    put-head-requires
+    put-clock-requires
     same-length-2
     returns-3)

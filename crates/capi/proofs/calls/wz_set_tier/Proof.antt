@@ -34,43 +34,40 @@ returns-2 c =
     (c .before .tier-check .ensures (workerIn bs .board) ∙ ap (λ (x : Engine). tierCheck (worker x (workerIn bs .board)) (a .clock) (a .tag) (a .tier)) (c .before .before .head-of .ensures))
     (c .if2 .taken)
 
-with-clock-requires : tie.Need-with-clock-requires
-with-clock-requires c κs = search needs
-
 cast-set-tier : tie.Need-cast-set-tier
 cast-set-tier c =
-    let a = c .before .before .before .before .before .before .before .before .before .args in
-    let e = c .before .before .before .before .before .head-of in
-    let p = tier-passed (worker (e .result) (workerIn (now (a .mem)) .board)) (a .clock) (a .tag) (a .tier) (sym (c .before .before .before .before .tier-check .ensures _) ∙ c .before .before .before .if2 .left) in
+    let a = c .before .before .before .before .before .before .before .args in
+    let e = c .before .before .before .head-of in
+    let p = tier-passed (worker (e .result) (workerIn (now (a .mem)) .board)) (a .clock) (a .tag) (a .tier) (sym (c .before .before .tier-check .ensures _) ∙ c .before .if2 .left) in
     search (needs, p .0)
 
 cast-set-tier-2 : tie.Need-cast-set-tier-2
 cast-set-tier-2 c =
-    let a = c .before .before .before .before .before .before .before .before .before .args in
-    let e = c .before .before .before .before .before .head-of in
-    let p = tier-passed (worker (e .result) (workerIn (now (a .mem)) .board)) (a .clock) (a .tag) (a .tier) (sym (c .before .before .before .before .tier-check .ensures _) ∙ c .before .before .before .if2 .left) in
+    let a = c .before .before .before .before .before .before .before .args in
+    let e = c .before .before .before .head-of in
+    let p = tier-passed (worker (e .result) (workerIn (now (a .mem)) .board)) (a .clock) (a .tag) (a .tier) (sym (c .before .before .tier-check .ensures _) ∙ c .before .if2 .left) in
     search (needs, p .1)
 
 set-tier-requires : tie.Need-set-tier-requires
 set-tier-requires c κs = search needs
 
-put-head-requires : tie.Need-put-head-requires
-put-head-requires c κs = search needs
+put-clock-requires : tie.Need-put-clock-requires
+put-clock-requires c κs = search needs
 
 same-length-2 : tie.Need-same-length-2
 same-length-2 c = search needs
 
 returns-3 : tie.Need-returns-3
 returns-3 c =
-    let a = c .before .before .before .before .before .before .before .before .before .before .before .before .before .before .before .before .args in
+    let a = c .before .before .before .before .before .before .before .before .before .before .before .before .before .before .args in
     let bs = now (a .mem) in
-    let e = c .before .before .before .before .before .before .before .before .before .before .before .before .head-of in
-    done-call bs _ _ _ (c .before .before .before .before .before .before .before .before .before .before .before .before .before .before .if1 .left)
-    (sym (c .before .before .before .before .before .before .before .before .before .before .if2 .left) ∙ c .before .before .before .before .before .before .before .before .before .before .before .tier-check .ensures (workerIn bs .board) ∙ ap (λ (x : Engine). tierCheck (worker x (workerIn bs .board)) (a .clock) (a .tag) (a .tier)) (e .ensures))
-    (c .before .before .put-head .ensures
-    ∙ ap (λ (x : Engine). worker x (workerIn (c .before .before .before .before .before .before .set-tier .last .0) .board)) (c .before .before .before .before .before .before .before .before .with-clock .ensures)
-    ∙ ap (λ (w : Worker). worker (withClock (e .result) (a .clock)) (w .board)) (c .before .before .before .before .before .before .set-tier .ensures)
-    ∙ ap (λ (x : Engine). worker (withClock x (a .clock)) (withTable (workerIn bs .board) (setTier (workerIn bs .board .table) (a .tag) (a .tier) (x .options .grace) (a .clock)))) (e .ensures))
+    let e = c .before .before .before .before .before .before .before .before .before .before .head-of in
+    let clocked : Worker → Worker = λ w. worker (withClock (w .head) (a .clock)) (w .board) in
+    done-call bs _ _ _ (c .before .before .before .before .before .before .before .before .before .before .before .before .if1 .left)
+    (sym (c .before .before .before .before .before .before .before .before .if2 .left) ∙ c .before .before .before .before .before .before .before .before .before .tier-check .ensures (workerIn bs .board) ∙ ap (λ (x : Engine). tierCheck (worker x (workerIn bs .board)) (a .clock) (a .tag) (a .tier)) (e .ensures))
+    (c .before .before .put-clock .ensures
+    ∙ ap clocked (c .before .before .before .before .before .before .set-tier .ensures)
+    ∙ ap (λ (x : Engine). worker (withClock (workerIn bs .head) (a .clock)) (withTable (workerIn bs .board) (setTier (workerIn bs .board .table) (a .tag) (a .tier) (x .options .grace) (a .clock)))) (e .ensures))
     (search needs)
 
 pub wz-set-tier-spec : {M : Type 1} → statement M
@@ -82,10 +79,9 @@ wz-set-tier-spec =
     tier-check-requires
     same-length
     returns-2
-    with-clock-requires
     cast-set-tier
     cast-set-tier-2
     set-tier-requires
-    put-head-requires
+    put-clock-requires
     same-length-2
     returns-3)
