@@ -1,6 +1,6 @@
 -- The steps in which a reading is applied, one after the other.
 use mathlib.Core.Path.{_≡_, refl, ap, sym, _∙_}
-use mathlib.Core.Bool.{Bool, true, false, not, _&&_, cond}
+use mathlib.Core.Bool.{Bool, true, false, not, _&&_}
 use mathlib.Core.List.{List, [], _∷_}
 use Prim.Native.Nat.{ℕ, zero, suc, _<_}
 use native.Mathlib.Omega.{arith}
@@ -18,7 +18,7 @@ use Rattle.table.specs.Tag.{f0, freshTag}
 use Rattle.table.specs.Table.{withMark}
 use Rattle.table.specs.declared.tag.Tag.{Tag}
 use Rattle.table.proofs.RowLaws.{set-again}
-use Rattle.readings.specs.Apply.{isSameAs, timingRead, isStopped, isWithheld, isEntrySent, heldPut, tagRead, appliedAt, sentAt}
+use Rattle.readings.specs.Apply.{isSameAs, timingRead, isStopped, isEntrySent, heldPut, tagRead, appliedAt, sentAt}
 use Rattle.readings.specs.Steps.{marked, cachedOver, isWithheldFrom, publishedOver, Repeated}
 
 -- past the end no tag has a tier
@@ -80,10 +80,10 @@ module _ (x : Tag) (e : Entry) (start : Float) (polled : Bool) where
 module _ (tags : List Tag) (k : ℕ) (r : TagResult) (start : Float) (t : ℤ) (polled : Bool) (tiered : eqb (getD tags k freshTag .tier) 0 ≡ false) where
   -- `old` is the cached entry, and `one` and `two` are the table once the tag is marked and the entry e is cached
   module _ (old : Held) (e : Entry) (one two : List Tag)
-    (cached : old ≡ getD tags k freshTag .cached)
-    (read : e ≡ merged (getD tags k freshTag .cached) r t)
-    (mark : one ≡ set tags k (marked (getD tags k freshTag) (e .quality) start))
-    (cache : two ≡ set one k (cachedOver old (getD one k freshTag) e)) where
+      (cached : old ≡ getD tags k freshTag .cached)
+      (read : e ≡ merged (getD tags k freshTag .cached) r t)
+      (mark : one ≡ set tags k (marked (getD tags k freshTag) (e .quality) start))
+      (cache : two ≡ set one k (cachedOver old (getD one k freshTag) e)) where
     made : Tag
     made = cachedOver (getD tags k freshTag .cached) (marked (getD tags k freshTag) (e .quality) start) e
 
@@ -115,17 +115,17 @@ module _ (tags : List Tag) (k : ℕ) (r : TagResult) (start : Float) (t : ℤ) (
         let on : isStopped polled (x .cached) e ≡ false = ap (λ (h : Held). isStopped polled h e) (sym cached) ∙ n in
         let here : getD two k freshTag ≡ made = ap (λ (l : List Tag). getD l k freshTag) after ∙ getD-set-same tags k made freshTag (tiered-in tags k tiered) in (
           rw tiered (
-            publish
-                ∙ ap (λ (l : List Tag). set l k (publishedOver (getD l k freshTag) e polled)) after
-                ∙ set-again (λ (y : Tag). publishedOver y e polled) tags k made freshTag
-                ∙ ap (set tags k) (on-tag x e start polled on ∙ ap (λ (e : Entry). tagRead x e start polled) read)
-          ),
+              publish
+              ∙ ap (λ (l : List Tag). set l k (publishedOver (getD l k freshTag) e polled)) after
+              ∙ set-again (λ (y : Tag). publishedOver y e polled) tags k made freshTag
+              ∙ ap (set tags k) (on-tag x e start polled on ∙ ap (λ (e : Entry). tagRead x e start polled) read)
+              ),
           rw tiered (
-            told
-                ∙ ap (λ (y : Tag). not (isWithheldFrom y e polled)) here
-                ∙ on-sent x e start polled on
-                ∙ ap (λ (e : Entry). isEntrySent x e polled) read
-          ),
+              told
+              ∙ ap (λ (y : Tag). not (isWithheldFrom y e polled)) here
+              ∙ on-sent x e start polled on
+              ∙ ap (λ (e : Entry). isEntrySent x e polled) read
+              ),
         )
 
 -- a polled reading that comes again only clears the mark

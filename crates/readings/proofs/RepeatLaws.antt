@@ -10,12 +10,10 @@ use mir.Val.{toZ}
 use mir.Syntax.{w64}
 use Rattle.values.specs.Value.{sameValue}
 use Rattle.values.specs.Entry.{qualityOf, merged}
-use Rattle.values.specs.declared.value.Value.{Value}
 use Rattle.values.specs.declared.value.Value.the-variants.{Null, Bool as Flag, Int}
 use Rattle.values.specs.declared.error.Error.{Error}
 use Rattle.values.specs.declared.error.Error.the-variants.{None}
 use Rattle.values.specs.declared.entry.Quality.the-variants.{Good}
-use Rattle.values.specs.declared.entry.Entry.{Entry}
 use Rattle.values.specs.declared.entry.Held.{Held}
 use Rattle.values.specs.declared.entry.Held.the-variants.{Is}
 use Rattle.values.specs.declared.entry.TagResult.{TagResult}

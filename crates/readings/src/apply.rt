@@ -120,7 +120,7 @@ pub fn apply_at(table: &mut [u8], k: usize, r: TagResult, start: f64, t: i64, po
 }
 
 // Whether the value is the same as itself: a NaN is not.
-fn is_own_same(kind: u64, word: u64) -> bool
+fn is_same_as_itself(kind: u64, word: u64) -> bool
     ensures { λ r. ⌜ r ≡ sameValue (valueFrom kind word) (valueFrom kind word) ⌝ }
 {
     if kind != 3 {
@@ -166,7 +166,7 @@ fn is_repeat(table: &[u8], k: usize, results: &[u8], i: usize) -> bool
     if !is_good_as(w, kind, word) {
         return false;
     }
-    is_own_same(kind, word)
+    is_same_as_itself(kind, word)
 }
 
 // Result i is a reading of the tag k. Most that are polled bring a value again, and these only clear the mark.

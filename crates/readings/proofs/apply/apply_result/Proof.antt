@@ -1,6 +1,5 @@
 -- `readings::apply::apply_result` meets its contract.
 use mathlib.Core.Path.{ap, _∙_}
-use mathlib.Core.Bool.{Bool}
 use lib.IntN.{ℤ}
 use mir.Syntax.{w64}
 use mir.ValLaws.{toZ-ofZ}

@@ -1,6 +1,5 @@
 -- `readings::apply::is_repeat` meets its contract.
-use mathlib.Core.Path.{_≡_, ap, sym, _∙_}
-use mathlib.Core.Bool.{true}
+use mathlib.Core.Path.{sym, _∙_}
 use Prim.Native.Nat.{_/_}
 use native.Mathlib.Omega.{arith}
 use denote.Ref.{now}
@@ -59,8 +58,8 @@ is-good-as-requires c κs = search needs
 returns-4 : tie.Need-returns-4
 returns-4 c = not-so
 
-is-own-same-requires : tie.Need-is-own-same-requires
-is-own-same-requires c κs = search needs
+is-same-as-itself-requires : tie.Need-is-same-as-itself-requires
+is-same-as-itself-requires c κs = search needs
 
 returns-5 : tie.Need-returns-5
 unfolding resultIn
@@ -72,7 +71,7 @@ returns-5 c = λ e.
     let kind = c .before .before .before .before .before .cell2 in
     let word = c .before .before .before .before .cell3 in
     repeated x (c .before .before .before .cached-words .result) (kind .result) (word .result) (c .before .before .before .cached-words .ensures) (c .before .before .is-good-as .ensures (not-false _ (c .before .if4 .left))) (resultIn (now (a .results)) (a .i))
-    tiered (sym (c .is-own-same .ensures) ∙ e) (rw (some, kind .ensures, word .ensures)) (rw (some, sym (c .before .before .before .before .before .before .before .cell .ensures) ∙ c .before .before .before .before .before .before .if3 .left))
+    tiered (sym (c .is-same-as-itself .ensures) ∙ e) (rw (some, kind .ensures, word .ensures)) (rw (some, sym (c .before .before .before .before .before .before .before .cell .ensures) ∙ c .before .before .before .before .before .before .if3 .left))
 
 pub is-repeat-spec : {M : Type 1} → statement M
 is-repeat-spec =
@@ -93,5 +92,5 @@ is-repeat-spec =
     cached-words-requires
     is-good-as-requires
     returns-4
-    is-own-same-requires
+    is-same-as-itself-requires
     returns-5)

@@ -1,10 +1,6 @@
 -- `readings::apply::mark` meets its contract.
-use mathlib.Core.Path.{_≡_, ap, sym, _∙_}
+use mathlib.Core.Path.{_≡_, sym, _∙_}
 use mathlib.Core.Bool.{true, false}
-use denote.Ref.{now}
-use lib.ListN.{getD, set}
-use Rattle.table.specs.Tag.{freshTag}
-use Rattle.table.specs.Table.{tableIn}
 use Rattle.readings.specs.Apply.{isMissing, timingRead}
 use borrow.Author.Needs.{needs}
 use Rattle.readings.proofs.apply.mark.Statement.{statement}

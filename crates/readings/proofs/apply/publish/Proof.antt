@@ -1,6 +1,6 @@
 -- `readings::apply::publish` meets its contract.
 use mathlib.Core.Path.{_≡_, ap, sym, _∙_}
-use mathlib.Core.Bool.{true, false, not}
+use mathlib.Core.Bool.{true, false}
 use denote.Ref.{now}
 use lib.ListN.{getD}
 use lib.Seq.{set-getD}

@@ -5,8 +5,7 @@ use lib.ListN.{getD, set}
 use Rattle.memory.specs.Cells.{rowsIn, noRow}
 use Rattle.memory.proofs.RowLaws.{row-long}
 use Rattle.table.specs.Row.{withEntryWords}
-use Rattle.table.specs.Table.{tableIn, withCached}
-use Rattle.table.specs.declared.tag.Tag.{Tag}
+use Rattle.table.specs.Table.{tableIn}
 use Rattle.table.proofs.RowLaws.{table-at, table-put, cached-put}
 use borrow.Author.Needs.{needs}
 use Rattle.table.proofs.fields.put_cached.Statement.{statement}

@@ -1,9 +1,9 @@
--- `readings::apply::is_own_same` meets its contract.
+-- `readings::apply::is_same_as_itself` meets its contract.
 use mathlib.Core.Path.{sym}
 use Rattle.readings.proofs.RepeatLaws.{no-float}
 use borrow.Author.Needs.{needs}
-use Rattle.readings.proofs.apply.is_own_same.Statement.{statement}
-use Rattle.readings.proofs.apply.is_own_same.Tie as tie
+use Rattle.readings.proofs.apply.is_same_as_itself.Statement.{statement}
+use Rattle.readings.proofs.apply.is_same_as_itself.Tie as tie
 
 returns : tie.Need-returns
 returns c =
@@ -16,5 +16,5 @@ returns-2 : tie.Need-returns-2
 returns-2 c =
     rw (c .before .if1 .left, c .float-of-word .ensures)
 
-pub is-own-same-spec : {M : Type 1} → statement M
-is-own-same-spec = tie.close (tie.spec returns float-of-word-requires returns-2)
+pub is-same-as-itself-spec : {M : Type 1} → statement M
+is-same-as-itself-spec = tie.close (tie.spec returns float-of-word-requires returns-2)
