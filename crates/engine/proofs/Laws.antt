@@ -127,7 +127,7 @@ pub clock-stored : (old new : List ℕ) (v : ℕ) (clock : Float) → length new
 clock-stored old new v clock same e back =
     let w = getD (rowsIn old) 0 noRow in
     let coded : engineFrom (set w 6 v) ≡ withClock (engineIn old) clock =
-        clock-put w v (row-long old 0) ∙ ap (withClock (engineFrom w)) back ∙ ap (λ (x : Engine). withClock x clock) (sym (engine-at old))
+    clock-put w v (row-long old 0) ∙ ap (withClock (engineFrom w)) back ∙ ap (λ (x : Engine). withClock x clock) (sym (engine-at old))
     in
     engine-put old new (set w 6 v) (withClock (engineIn old) clock) same e coded
 

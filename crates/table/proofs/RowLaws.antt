@@ -9,8 +9,12 @@ use lib.ListN.{length, getD, set, drop, length-map}
 use Rattle.memory.specs.Cells.{rowsIn, noRow}
 use Rattle.memory.proofs.RowLaws.{length-rows, map-at, map-set, row-long, spread, spread-is}
 use Rattle.table.specs.Tag.{freshTag}
-use Rattle.table.specs.Row.{graceFrom, descriptionFrom, tagFrom}
-use Rattle.table.specs.Table.{tableIn, withLast, withAdded, withWants, withDescription, withAfter, withStanding, withoutLast, withoutReadings}
+use Rattle.values.specs.declared.entry.Entry.{Entry}
+use Rattle.values.specs.declared.entry.Held.the-variants.{Is}
+use Rattle.words.specs.Entry.{heldFrom}
+use Rattle.words.specs.declared.entry.EntryWords.{EntryWords}
+use Rattle.table.specs.Row.{graceFrom, descriptionFrom, withEntryWords, tagFrom}
+use Rattle.table.specs.Table.{tableIn, withLast, withMark, withAdded, withWants, withDescription, withAfter, withStanding, withCached, withPublished, withoutLast, withoutReadings}
 use Rattle.table.specs.declared.tag.Tag.{Tag}
 
 -- a row of zeros is a fresh tag
@@ -43,6 +47,10 @@ module _ (w : List ℕ) (h : length w ≡ 32) where
   unfolding tagFrom spread
   last-put v = subst (λ (r : List ℕ). tagFrom (set (set r 4 1) 5 v) ≡ withLast (tagFrom r) (ofBits binary64 v)) (spread-is 32 w h) refl
 
+  pub mark-put : (u v : ℕ) → tagFrom (set (set w 6 u) 7 v) ≡ withMark (tagFrom w) (ltb 0 u) (ofBits binary64 v)
+  unfolding tagFrom spread
+  mark-put u v = subst (λ (r : List ℕ). tagFrom (set (set r 6 u) 7 v) ≡ withMark (tagFrom r) (ltb 0 u) (ofBits binary64 v)) (spread-is 32 w h) refl
+
   pub wants-put : (v : ℕ) → tagFrom (set w 9 v) ≡ withWants (tagFrom w) (ltb 0 v)
   unfolding tagFrom spread
   wants-put v = subst (λ (r : List ℕ). tagFrom (set r 9 v) ≡ withWants (tagFrom r) (ltb 0 v)) (spread-is 32 w h) refl
@@ -60,6 +68,14 @@ module _ (w : List ℕ) (h : length w ≡ 32) where
       ≡ withStanding (tagFrom w) (tier % 256) (graceFrom on deadline after) (ltb 0 added) (ltb 0 wants)
   unfolding tagFrom spread
   standing-put tier on deadline after added wants = subst (λ (r : List ℕ). tagFrom (set (set (set (set (set (set r 0 tier) 1 on) 2 deadline) 3 after) 8 added) 9 wants) ≡ withStanding (tagFrom r) (tier % 256) (graceFrom on deadline after) (ltb 0 added) (ltb 0 wants)) (spread-is 32 w h) refl
+
+  pub cached-put : (v : EntryWords) (e : Entry) → heldFrom v ≡ Is e → tagFrom (withEntryWords w 16 v) ≡ withCached (tagFrom w) e
+  unfolding tagFrom spread
+  cached-put v e f = subst (λ (r : List ℕ). tagFrom (withEntryWords r 16 v) ≡ withCached (tagFrom r) e) (spread-is 32 w h) (rw f)
+
+  pub published-put : (v : EntryWords) (e : Entry) → heldFrom v ≡ Is e → tagFrom (withEntryWords w 22 v) ≡ withPublished (tagFrom w) e
+  unfolding tagFrom spread
+  published-put v e f = subst (λ (r : List ℕ). tagFrom (withEntryWords r 22 v) ≡ withPublished (tagFrom r) e) (spread-is 32 w h) (rw f)
 
   pub last-forgotten : tagFrom (set (set w 4 0) 5 0) ≡ withoutLast (tagFrom w)
   unfolding tagFrom spread

@@ -4,7 +4,7 @@ use mathlib.Core.List.{List}
 use Prim.Native.Nat.{ℕ, _+_, _-_, _%_}
 use lib.Dec.{eqb, ltb}
 use lib.Ieee.{binary64, ofBits}
-use lib.ListN.{getD}
+use lib.ListN.{getD, set}
 use Rattle.values.specs.declared.entry.Held.{Held}
 use Rattle.words.specs.Entry.{heldFrom}
 use Rattle.words.specs.declared.entry.EntryWords.{EntryWords}
@@ -37,6 +37,10 @@ descriptionFrom n = cond (eqb n 0) Unknown (cond (eqb n 1) Nothing (Is ((n - 2) 
 -- the six words from cell p on
 abbrev pub entryWordsAt : List ℕ → ℕ → EntryWords
 entryWordsAt ws p = record { held = getD ws p 0; kind = getD ws (p + 1) 0; word = getD ws (p + 2) 0; t = getD ws (p + 3) 0; error = getD ws (p + 4) 0; message = getD ws (p + 5) 0 }
+
+-- a row with six words from cell p on
+abbrev pub withEntryWords : List ℕ → ℕ → EntryWords → List ℕ
+withEntryWords ws p w = set (set (set (set (set (set ws p (w .held)) (p + 1) (w .kind)) (p + 2) (w .word)) (p + 3) (w .t)) (p + 4) (w .error)) (p + 5) (w .message)
 
 unfoldable pub tagFrom : List ℕ → Tag
 tagFrom ws = record {

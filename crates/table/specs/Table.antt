@@ -4,7 +4,8 @@ use mathlib.Core.List.{List, map}
 use Prim.Native.Nat.{ℕ}
 use lib.Ieee.{Float}
 use Rattle.memory.specs.Cells.{rowsIn}
-use Rattle.values.specs.declared.entry.Held.the-variants.{None}
+use Rattle.values.specs.declared.entry.Entry.{Entry}
+use Rattle.values.specs.declared.entry.Held.the-variants.{None, Is}
 use Rattle.table.specs.Tag.{f0, noTiming}
 use Rattle.table.specs.Row.{tagFrom}
 use Rattle.table.specs.declared.tag.Grace.{Grace}
@@ -45,6 +46,10 @@ withTiming x m = record {
 -- read at the clock time `at`
 abbrev pub withLast : Tag → Float → Tag
 withLast x at = withTiming x (record { read = true; last = at; missing = x .timing .missing; retry = x .timing .retry })
+
+-- missing, to be asked for again at `retry`, or not missing
+abbrev pub withMark : Tag → Bool → Float → Tag
+withMark x missing retry = withTiming x (record { read = x .timing .read; last = x .timing .last; missing = missing; retry = retry })
 
 abbrev pub withAdded : Tag → Bool → Tag
 withAdded x b = record {
@@ -100,6 +105,34 @@ withStanding x tier g added wants = record {
   settings = x .settings;
   cached = x .cached;
   published = x .published;
+}
+
+-- the entry e cached
+abbrev pub withCached : Tag → Entry → Tag
+withCached x e = record {
+  tier = x .tier;
+  grace = x .grace;
+  timing = x .timing;
+  added = x .added;
+  wants = x .wants;
+  description = x .description;
+  settings = x .settings;
+  cached = Is e;
+  published = x .published;
+}
+
+-- the entry e published
+abbrev pub withPublished : Tag → Entry → Tag
+withPublished x e = record {
+  tier = x .tier;
+  grace = x .grace;
+  timing = x .timing;
+  added = x .added;
+  wants = x .wants;
+  description = x .description;
+  settings = x .settings;
+  cached = x .cached;
+  published = Is e;
 }
 
 -- never read

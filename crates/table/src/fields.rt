@@ -1,8 +1,12 @@
 // Parts of the tag at k, read and written with no more of its row than they need.
 ghost use mathlib.Core.Path.{_≡_};
 ghost use lib.ListN.{getD, set};
+ghost use Prim.Native.Nat.{_<_};
+ghost use Rattle.memory.specs.Cells.{rowsIn, noRow};
+ghost use Rattle.words.specs.Entry.{heldFrom};
 ghost use Rattle.table.specs.Tag.{freshTag};
-ghost use Rattle.table.specs.Table.{tableIn, withLast, withAdded, withWants, withDescription, withAfter, withStanding, withoutLast, withoutReadings};
+ghost use Rattle.table.specs.Row.{entryWordsAt, withEntryWords};
+ghost use Rattle.table.specs.Table.{tableIn, withLast, withMark, withAdded, withWants, withDescription, withAfter, withStanding, withCached, withPublished, withoutLast, withoutReadings};
 use super::codec::description_from;
 use super::codec::description_word;
 use super::codec::grace_from;
@@ -14,8 +18,10 @@ use super::tag::Settings;
 use super::tag::Timing;
 use memory::rows::put_row_cell;
 use memory::rows::row_cell;
+use values::entry::Entry;
 use values::entry::Held;
 use words::entry::EntryWords;
+use words::entry::entry_words;
 use words::entry::held_from;
 use words::scalar::word_of_flag;
 use words::scalar::word_of_float;
@@ -75,42 +81,46 @@ pub fn settings_of(t: &[u8], k: usize) -> Settings
     settings_from(band, grouped, group, rate, described)
 }
 
-pub fn cached_of(t: &[u8], k: usize) -> Held
-    ensures { λ r. ⌜ r ≡ getD (tableIn (now (t .entry))) k freshTag .cached ⌝ }
+// The six words of an entry, from the cell `first` on.
+fn words_at(t: &[u8], k: usize, first: usize) -> EntryWords
+    requires { ⌜ first < 27 ⌝ }
+    ensures { λ r. ⌜ r ≡ entryWordsAt (getD (rowsIn (now (t .entry))) k noRow) first ⌝ }
 {
-    let held = row_cell(t, k, 16);
-    let kind = row_cell(t, k, 17);
-    let word = row_cell(t, k, 18);
-    let time = row_cell(t, k, 19);
-    let error = row_cell(t, k, 20);
-    let message = row_cell(t, k, 21);
-    held_from(EntryWords {
+    let held = row_cell(t, k, first);
+    let kind = row_cell(t, k, first + 1);
+    let word = row_cell(t, k, first + 2);
+    let time = row_cell(t, k, first + 3);
+    let error = row_cell(t, k, first + 4);
+    let message = row_cell(t, k, first + 5);
+    EntryWords {
         held: held,
         kind: kind,
         word: word,
         t: time,
         error: error,
         message: message,
-    })
+    }
+}
+
+// The cached entry as it stands in memory, for a look at it that needs no entry.
+pub fn cached_words(t: &[u8], k: usize) -> EntryWords
+    ensures { λ r. ⌜ heldFrom r ≡ getD (tableIn (now (t .entry))) k freshTag .cached ⌝ }
+{
+    words_at(t, k, 16)
+}
+
+pub fn cached_of(t: &[u8], k: usize) -> Held
+    ensures { λ r. ⌜ r ≡ getD (tableIn (now (t .entry))) k freshTag .cached ⌝ }
+{
+    let w = cached_words(t, k);
+    held_from(w)
 }
 
 pub fn published_of(t: &[u8], k: usize) -> Held
     ensures { λ r. ⌜ r ≡ getD (tableIn (now (t .entry))) k freshTag .published ⌝ }
 {
-    let held = row_cell(t, k, 22);
-    let kind = row_cell(t, k, 23);
-    let word = row_cell(t, k, 24);
-    let time = row_cell(t, k, 25);
-    let error = row_cell(t, k, 26);
-    let message = row_cell(t, k, 27);
-    held_from(EntryWords {
-        held: held,
-        kind: kind,
-        word: word,
-        t: time,
-        error: error,
-        message: message,
-    })
+    let w = words_at(t, k, 22);
+    held_from(w)
 }
 
 // The last reading time set.
@@ -120,6 +130,16 @@ pub fn put_last(t: &mut [u8], k: usize, clock: f64)
     let last = word_of_float(clock);
     put_row_cell(t, k, 4, 1);
     put_row_cell(t, k, 5, last);
+}
+
+// The missing mark set with its retry time, or cleared.
+pub fn put_mark(t: &mut [u8], k: usize, missing: bool, retry: f64)
+    ensures { λ _. ⌜ tableIn (now (t .exit)) ≡ set (tableIn (now (t .entry))) k (withMark (getD (tableIn (now (t .entry))) k freshTag) missing retry) ⌝ }
+{
+    let flag = word_of_flag(missing);
+    let time = word_of_float(retry);
+    put_row_cell(t, k, 6, flag);
+    put_row_cell(t, k, 7, time);
 }
 
 // Whether the tag is new in tier 2.
@@ -160,6 +180,32 @@ pub fn put_standing(t: &mut [u8], k: usize, tier: u8, g: Grace, added: bool, wan
     put_row_cell(t, k, 3, g.after as u64);
     put_row_cell(t, k, 8, new);
     put_row_cell(t, k, 9, wanted);
+}
+
+fn put_words(t: &mut [u8], k: usize, first: usize, w: EntryWords)
+    requires { ⌜ first < 27 ⌝ }
+    ensures { λ _. ⌜ rowsIn (now (t .exit)) ≡ set (rowsIn (now (t .entry))) k (withEntryWords (getD (rowsIn (now (t .entry))) k noRow) first w) ⌝ }
+{
+    put_row_cell(t, k, first, w.held);
+    put_row_cell(t, k, first + 1, w.kind);
+    put_row_cell(t, k, first + 2, w.word);
+    put_row_cell(t, k, first + 3, w.t);
+    put_row_cell(t, k, first + 4, w.error);
+    put_row_cell(t, k, first + 5, w.message);
+}
+
+pub fn put_cached(t: &mut [u8], k: usize, e: Entry)
+    ensures { λ _. ⌜ tableIn (now (t .exit)) ≡ set (tableIn (now (t .entry))) k (withCached (getD (tableIn (now (t .entry))) k freshTag) e) ⌝ }
+{
+    let w = entry_words(e);
+    put_words(t, k, 16, w);
+}
+
+pub fn put_published(t: &mut [u8], k: usize, e: Entry)
+    ensures { λ _. ⌜ tableIn (now (t .exit)) ≡ set (tableIn (now (t .entry))) k (withPublished (getD (tableIn (now (t .entry))) k freshTag) e) ⌝ }
+{
+    let w = entry_words(e);
+    put_words(t, k, 22, w);
 }
 
 // The last reading time is forgotten.
