@@ -23,7 +23,7 @@ places hs = drop 1 hs
 pub length-places : (hs : List ℕ) → length (places hs) ≡ length hs - 1
 length-places hs = length-drop 1 hs
 
-place-at : (hs : List ℕ) (i : ℕ) → getD hs (i + 1) 0 ≡ getD (places hs) i 0
+pub place-at : (hs : List ℕ) (i : ℕ) → getD hs (i + 1) 0 ≡ getD (places hs) i 0
 place-at hs i = sym (getD-drop 1 hs i 0 ∙ ap (λ (n : ℕ). getD hs n 0) (add-comm 1 i))
 
 pub place-put : (hs : List ℕ) (i v : ℕ) → places (set hs (i + 1) v) ≡ set (places hs) i v
