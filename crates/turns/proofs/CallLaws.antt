@@ -48,7 +48,7 @@ use Rattle.turns.proofs.StillLaws.{keeps-refl}
 use Rattle.turns.proofs.SoundLaws.{Sound, LastPast, finite-number, indexOf, listedOf, listed-kept, sound-kept, sound-step, respects-step}
 
 -- two checks in a row that refuse nothing
-first-zero : (n m : ℕ) → first n m ≡ 0 → (n ≡ 0) × (m ≡ 0)
+pub first-zero : (n m : ℕ) → first n m ≡ 0 → (n ≡ 0) × (m ≡ 0)
 first-zero zero m e = (refl, e)
 first-zero (suc n) m e = let z : eqb (suc n) 0 ≡ false = ne-eqb (suc n) 0 (λ q. omega arith) in absurd (let x : suc n ≡ 0 = rw z at e in omega arith)
 
@@ -79,7 +79,7 @@ module _ (o : Options) (ns : List (List ℕ)) (W : Worker) (s : Sound o ns W) wh
           (fine, λ z. (s .last-past z .0, le-trans-float (W .head .cycle .last) (W .head .clock) clock (s .last-past z .1) later))
 
   -- an accepted tier call names a tag of the directory
-  tier-inside : (clock : Float) (tag to : ℕ) → tierCheck W clock tag to ≡ 0 → tag < W .head .count
+  pub tier-inside : (clock : Float) (tag to : ℕ) → tierCheck W clock tag to ≡ 0 → tag < W .head .count
   unfolding tierCheck
   tier-inside clock tag to e = leb-false (W .head .count) tag (tag-found (noTag W tag) (ltb 3 to) (first-zero (clockCheck W clock) _ e .1))
 
@@ -117,7 +117,7 @@ module _ (o : Options) (ns : List (List ℕ)) (W : Worker) (s : Sound o ns W) wh
       loaded-long (setTier E k t grace clock) ks ts grace clock (rw long (b .1)) (listed-tier E l k (b .0) t grace clock) ∙ long
 
   -- an accepted list names tags of the directory alone
-  panel-inside : (n : ℕ) (list : List ℕ) → panelCheck n list ≡ 0 → Below n (tagsOf list)
+  pub panel-inside : (n : ℕ) (list : List ℕ) → panelCheck n list ≡ 0 → Below n (tagsOf list)
   unfolding panelCheck tagsOf tiersOf
   panel-inside n list e = go (eqb (length list) 0) refl (eqb (length list) (panelRoom (countIn list))) refl e
     where
@@ -170,7 +170,7 @@ unfolding creationCheck
 names-few s e = checked maxNames maxNameLength (s .names) (s .ends) (first-zero (directoryCheck maxNames maxNameLength (s .names) (s .ends)) _ e .0) .few
 
 -- Check 14
-settings-good : (s : Setup) → creationCheck s ≡ 0 → settingsOk (length (s .ends)) (s .settings) ≡ true
+pub settings-good : (s : Setup) → creationCheck s ≡ 0 → settingsOk (length (s .ends)) (s .settings) ≡ true
 unfolding creationCheck
 settings-good s e = go (settingsOk (length (s .ends)) (s .settings)) refl (configuredOk (s .groups)) (first-zero (optionsCheck (s .options)) _ (first-zero (directoryCheck maxNames maxNameLength (s .names) (s .ends)) _ e .1) .1)
   where

@@ -1,0 +1,595 @@
+-- A step comes to the same with more room. `alike-X` says it of the definition X of `worker`: X tells the same, and leaves the same engine but for the rooms.
+use mathlib.Core.Path.{_≡_, refl, ap, _∙_}
+use mathlib.Core.Bool.{Bool, true, false, cond}
+use mathlib.Core.List.{List, [], _∷_, _++_, map}
+use Prim.Native.Nat.{ℕ, suc, _+_, _*_, _-_, _%_, _≤_}
+use native.Mathlib.Omega.{arith}
+use lib.Dec.{eqb, ltb}
+use lib.Ieee.{Float, binary64, round as rounded, le}
+use lib.IntN.{ℤ}
+use lib.ListN.{length, getD, set, take, length-map, length-take, length-drop, length-append}
+use Rattle.lists.specs.Keep.{keep}
+use Rattle.lists.specs.Sort.{byKeys}
+use Rattle.lent.specs.Changes.{changeCells}
+use Rattle.lent.specs.Lent.{records}
+use Rattle.lent.proofs.LentLaws.{length-records}
+use Rattle.memory.specs.Lists.{pushed, member}
+use Rattle.table.specs.Tag.{freshTag}
+use Rattle.table.specs.Table.{withDescription}
+use Rattle.table.specs.declared.tag.Description.{Description}
+use Rattle.table.specs.declared.tag.Description.the-variants.{Nothing as NoDescription}
+use Rattle.table.specs.declared.tag.Tag.{Tag}
+use Rattle.values.specs.declared.entry.Entry.{Entry}
+use Rattle.values.specs.declared.entry.TagResult.{TagResult}
+use Rattle.tiers.specs.Listed.{Listed}
+use Rattle.readings.specs.Apply.{tagRead, tagApplied, appliedAt, sentAt}
+use Rattle.readings.specs.Results.{Applying, resultCount, resultIn, applyNext, applyFrom, applyAll}
+use Rattle.readings.specs.Stale.{tagStale, isStaled}
+use Rattle.descriptions.specs.Descriptions.{isAsked, askedTags, unwanted, knownFrom, foundIn, foundCount, learnt, learntNone}
+use Rattle.settings.specs.Settings.{settingsOk, maxGroups}
+use Rattle.versions.specs.Versions.{tagTaken, takenAt, eachAt, tableTaken, versionTable, isChanged, isReloaded, takesSettings}
+use Rattle.versions.specs.declared.version.Version.{Version}
+use Rattle.writes.specs.Queue.{popped, rest, writeTags}
+use Rattle.writes.specs.ReadBack.{readBackTags}
+use Rattle.writes.specs.declared.queue.Write.{Write}
+use Rattle.writes.specs.declared.queue.Popped.{Popped}
+use Rattle.writes.specs.declared.queue.Popped.the-variants.{Nothing, Is}
+use Rattle.rounds.specs.Added.{byRank}
+use Rattle.rounds.specs.Round.{Round}
+use Rattle.engine.specs.Link.{isState, withAttempt}
+use Rattle.engine.specs.Stats.{readStats, tailStats, reconnected}
+use Rattle.engine.specs.declared.link.State.the-variants.{Disconnected, Connecting, Connected, Stopped as AtStop}
+use Rattle.engine.specs.declared.progress.After.{After}
+use Rattle.engine.specs.declared.progress.After.the-variants.{Tail, Idle, End}
+use Rattle.engine.specs.declared.progress.Phase.{Phase}
+use Rattle.engine.specs.declared.progress.Phase.the-variants.{Begin, Connect, OpenVersion, Version as AskVersion, Read, Describe, Write as AskWrite, ReadBack, Wait, Backoff, OpenFailedTold, OpenMetaTold, ConnectedTold, MetaTold, ValuesTold, InfoTold, RefusedTold, LostTold, OutcomeTold, BackTold, FailedTold, StaleTold, DisconnectedTold, ConnectingTold, Stopped}
+use Rattle.board.specs.Board.{Board, withRecords, withQueue, withAsked, keptBack, staledIn, appliedTo, describing, queuedTags, pollingOf}
+use Rattle.worker.specs.Reply as reply
+use Rattle.worker.specs.declared.reply.Reply.{Reply}
+use Rattle.worker.specs.Worker.{Worker, At, Told, tell, asks, withBoard, phased, linked, stated, tallied, goesOn}
+use Rattle.worker.specs.Losing.{isEmpty, withoutWrites, failing, ended, backingOff, disconnected, staling, down, top}
+use Rattle.worker.specs.Polling.{elapsed, remaining, polls, waiting, idle, tail, resume, writingOf, writing, checking, reading, roundAt, withWorked, worked, polled, poll, lastly, finished}
+use Rattle.worker.specs.Answers.{Answer, awaited, either, answers, contents, numberOf, versioned, connected, reconnecting, opened, openVersion, roundVersion, results, descriptions, written, readBack, backApplied, waited, backedOff, connectAnswered, taken, handled}
+use Rattle.capi.specs.Calls.{maxWrites}
+use Rattle.turns.specs.Uncut.{boardRoomed, roomed}
+use Rattle.turns.proofs.TierLaws.{settingsOf, map-kept, set-kept}
+use Rattle.turns.proofs.FitLaws.{cut-same, pushed-same, ranks-few, Numbered, numbered-same, numbered-version, isGraced, fit-tags, Fits}
+use Rattle.turns.proofs.RoomLaws.{pollingRoomed, tick-same, boundary-same, list-same, after-same, round-fits, groups-fit, list-few}
+
+-- ---- what readings, descriptions and versions keep of each tag
+
+module _ {A : Type 0} (g : Tag → A) where
+  -- either of two
+  cond-kept : (b : Bool) (x y l : List Tag) → map g x ≡ map g l → map g y ≡ map g l → map g (cond b x y) ≡ map g l
+  cond-kept true x y l p q = p
+  cond-kept false x y l p q = q
+
+  module _ (start : Float) (t : ℤ) (polled : Bool) (h : (x : Tag) (e : Entry) → g (tagRead x e start polled) ≡ g x) where
+    applied-kept : (tags : List Tag) (k : ℕ) (r : TagResult) → map g (appliedAt tags k r start t polled) ≡ map g tags
+    unfolding appliedAt
+    applied-kept tags k r = cond-kept (eqb (getD tags k freshTag .tier) 0) tags _ tags refl (set-kept g tags k (tagApplied (getD tags k freshTag) r start t polled) (h (getD tags k freshTag) _))
+
+    apply-kept : (n : ℕ) (given : List ℕ) (i : ℕ) (ks : List ℕ) (S : Applying) → map g (applyFrom n given start t polled i ks S .tags) ≡ map g (S .tags)
+    unfolding applyFrom applyNext
+    apply-kept n given i [] S = refl
+    apply-kept n given i (k ∷ ks) S = apply-kept n given (suc i) ks (applyNext n S k (resultIn given i) start t polled) ∙ applied-kept (S .tags) k (resultIn given i)
+
+  known-kept : ((x : Tag) (d : Description) → g (withDescription x d) ≡ g x) → (f : ℕ → Description) (i : ℕ) (ks : List ℕ) (tags : List Tag) → map g (knownFrom f i ks tags) ≡ map g tags
+  unfolding knownFrom
+  known-kept h f i [] tags = refl
+  known-kept h f i (k ∷ ks) tags = known-kept h f (suc i) ks (set tags k (withDescription (getD tags k freshTag) (f i))) ∙ set-kept g tags k (withDescription (getD tags k freshTag) (f i)) (h (getD tags k freshTag) (f i))
+
+  pub each-kept : (f : ℕ → Tag → Tag) → ((i : ℕ) (x : Tag) → g (f i x) ≡ g x) → (i : ℕ) (tags : List Tag) → map g (eachAt f i tags) ≡ map g tags
+  unfolding eachAt
+  each-kept f h i [] = refl
+  each-kept f h i (x ∷ l) = rw (h i x, each-kept f h (suc i) l)
+
+-- a version answer keeps graces
+version-graces : (old new : Version) (connecting : Bool) (settings words : List ℕ) (tags : List Tag) → map isGraced (versionTable old new connecting settings words tags) ≡ map isGraced tags
+unfolding versionTable tagTaken
+version-graces old new connecting settings words tags =
+    cond-kept isGraced (takesSettings (isChanged old new) connecting) (tableTaken (isChanged old new) settings words tags) tags tags
+    (each-kept isGraced (takenAt (isChanged old new) settings words) (λ i x. refl) 0 tags) refl
+
+-- ---- readings sent
+
+-- one tag more, or not
+sent-grows : (n : ℕ) (b : Bool) (l : List ℕ) (k : ℕ) → length (cond b (pushed n l k) l) ≤ suc (length l)
+sent-grows n false l k = omega arith
+sent-grows n true l k = go (ltb (length l) n)
+  where
+    go : (c : Bool) → length (cond c (l ++ (k ∷ [])) l) ≤ suc (length l)
+    go true = omega (arith, length-append l (k ∷ []))
+    go false = omega arith
+
+-- with room for all tags of the list, it does not matter how much
+apply-same : (n m : ℕ) (given : List ℕ) (start : Float) (t : ℤ) (polled : Bool) (i : ℕ) (ks : List ℕ) (S : Applying) → length (S .sent) + length ks ≤ n → length (S .sent) + length ks ≤ m
+    → applyFrom n given start t polled i ks S ≡ applyFrom m given start t polled i ks S
+unfolding applyFrom applyNext
+apply-same n m given start t polled i [] S p q = refl
+apply-same n m given start t polled i (k ∷ ks) S p q =
+    let r = resultIn given i in
+    let b = sentAt (S .tags) k r t polled in
+    let next = applyNext m S k r start t polled in
+    let few = sent-grows m b (S .sent) (k % 65536) in
+    ap (λ (sent : List ℕ). applyFrom n given start t polled (suc i) ks (record { tags = appliedAt (S .tags) k r start t polled; sent = cond b sent (S .sent) }))
+    (pushed-same n m (S .sent) (k % 65536) (omega arith) (omega arith))
+    ∙ apply-same n m given start t polled (suc i) ks next (omega (arith, few)) (omega (arith, few))
+
+-- ---- a board with one part replaced
+
+module _ (rows n : ℕ) (B : Board) (f : Fits rows n B) where
+  fits-records : (tags : List Tag) → map isGraced tags ≡ map isGraced (B .table .tags) → Numbered tags → Fits rows n (withRecords B tags)
+  fits-records tags e r = record {
+    table-fits = fit-tags rows (B .table) tags e r (f .table-fits);
+    groups-fit = f .groups-fit;
+    named = f .named;
+    asked-few = f .asked-few;
+    queue-few = f .queue-few;
+    rooms = f .rooms;
+  }
+
+  pub fits-queue : (q : List Write) → length q ≤ maxWrites → Fits rows n (withQueue B q)
+  fits-queue q h = record { table-fits = f .table-fits; groups-fit = f .groups-fit; named = f .named; asked-few = f .asked-few; queue-few = h; rooms = f .rooms }
+
+  fits-asked : (l : List ℕ) → length l ≤ B .askedRoom → Fits rows n (withAsked B l)
+  fits-asked l h = record { table-fits = f .table-fits; groups-fit = f .groups-fit; named = f .named; asked-few = h; queue-few = f .queue-few; rooms = f .rooms }
+
+  abbrev tags : List Tag
+  tags = B .table .tags
+
+  -- what is told of changes: seven cells each, and no more changes than tags
+  changes-few : (l : List Tag) (ks : List ℕ) → length ks ≤ rows → length (records (changeCells l) ks) ≤ 7 * rows
+  changes-few l ks h = omega (arith, length-records (changeCells l) 7 (λ k. refl) ks)
+
+  -- tags by rank: all fit, and it does not matter how much room there is
+  module _ (p : ℕ → Bool) where
+    abbrev ranked : List ℕ
+    ranked = keep p (byRank tags)
+
+    ranked-few : length (take (B .askedRoom) ranked) ≤ rows
+    ranked-few = omega (arith, length-take (B .askedRoom) ranked, ranks-few p tags, f .table-fits .long)
+
+    ranked-same : take n ranked ≡ take (B .askedRoom) ranked
+    ranked-same =
+        let few = ranks-few p tags in
+        let long = f .table-fits .long in
+        cut-same n (B .askedRoom) ranked (omega (arith, few, long, f .rooms .tags-fit, f .rooms .more)) (omega (arith, few, long, f .rooms .tags-fit))
+
+  -- Rule 7: stale marks
+  stale-same : staledIn (boardRoomed n B) ≡ record { board = boardRoomed n (staledIn B .board); changes = staledIn B .changes }
+  unfolding staledIn
+  stale-same = rw (ranked-same (λ (k : ℕ). isStaled (getD tags k freshTag)))
+
+  stale-few : length (staledIn B .changes) ≤ rows
+  unfolding staledIn
+  stale-few = ranked-few (λ (k : ℕ). isStaled (getD tags k freshTag))
+
+  stale-fits : Fits rows n (staledIn B .board)
+  unfolding staledIn tagStale
+  stale-fits =
+      fits-records (map tagStale tags) (map-kept isGraced tagStale (λ x. refl) tags)
+      (numbered-same (map tagStale tags) tags (map-kept settingsOf tagStale (λ x. refl) tags) (f .table-fits .numbered))
+
+  -- Rule 7: readings
+  module _ (given : List ℕ) (start : Float) (t : ℤ) (polled : Bool) where
+    abbrev applied : Applying
+    applied = applyAll (B .askedRoom) given start t polled (B .asked) tags
+
+    all-same : applyAll n given start t polled (B .asked) tags ≡ applied
+    all-same =
+        let few = length-take (resultCount given) (B .asked) in
+        apply-same n (B .askedRoom) given start t polled 0 (take (resultCount given) (B .asked)) (record { tags = tags; sent = [] })
+        (omega (arith, few, f .asked-few, f .rooms .more)) (omega (arith, few, f .asked-few))
+
+    applied-same : appliedTo (boardRoomed n B) given start t polled ≡ record { board = boardRoomed n (appliedTo B given start t polled .board); changes = appliedTo B given start t polled .changes }
+    unfolding appliedTo
+    applied-same = rw (all-same, ranked-same (λ (k : ℕ). member k (applied .sent)))
+
+    applied-few : length (appliedTo B given start t polled .changes) ≤ rows
+    unfolding appliedTo
+    applied-few = ranked-few (λ (k : ℕ). member k (applied .sent))
+
+    applied-fits : Fits rows n (appliedTo B given start t polled .board)
+    unfolding appliedTo tagRead
+    applied-fits =
+        let ks = take (resultCount given) (B .asked) in
+        let S : Applying = record { tags = tags; sent = [] } in
+        fits-records (applied .tags) (apply-kept isGraced start t polled (λ x e. refl) (B .askedRoom) given 0 ks S)
+        (numbered-same (applied .tags) tags (apply-kept settingsOf start t polled (λ x e. refl) (B .askedRoom) given 0 ks S) (f .table-fits .numbered))
+
+  -- Rule 8: the descriptions that are asked for
+  asked-same : take n (askedTags tags) ≡ take (B .askedRoom) (askedTags tags)
+  asked-same = ranked-same (λ (k : ℕ). isAsked (getD tags k freshTag))
+
+  asked-few : length (describing B .asked) ≤ rows
+  asked-few = ranked-few (λ (k : ℕ). isAsked (getD tags k freshTag))
+
+  -- Rule 8: the tags of the writes that wait
+  queued-same : queuedTags (boardRoomed n B) ≡ queuedTags B
+  queued-same =
+      let long = length-map (B .queue) (λ (w : Write). w .tag) in
+      let few = f .queue-few in
+      let r = f .rooms in
+      cut-same n (B .askedRoom) (writeTags (B .queue)) (omega (arith, long, r .writes-fit, r .more)) (omega (arith, long, r .writes-fit))
+
+  queued-few : length (queuedTags B) ≤ 7 * rows
+  queued-few = omega (arith, length-take (B .askedRoom) (writeTags (B .queue)), f .rooms .cells-fit)
+
+describing-fits : (rows n : ℕ) (B : Board) → Fits rows n B → Fits rows n (describing B)
+describing-fits rows n B f =
+    let tags = B .table .tags in
+    let mid = withRecords B (map unwanted tags) in
+    let m : Fits rows n mid = fits-records rows n B f (map unwanted tags) (map-kept isGraced unwanted (λ x. refl) tags)
+    (numbered-same (map unwanted tags) tags (map-kept settingsOf unwanted (λ x. refl) tags) (f .table-fits .numbered)) in
+    fits-asked rows n mid m (take (B .askedRoom) (askedTags tags)) (omega (arith, length-take (B .askedRoom) (askedTags tags)))
+
+-- ---- what is told
+
+module _ (rows n : ℕ) where
+  -- What T' tells is what T tells, and it leaves the same engine but for the rooms; what fits is kept, and the cells are no more than a change for each tag has.
+  pub record Alike (T T' : Told) : Type 0 where
+    pub fits : Fits rows n (T .left .board)
+    pub left-same : T' .left ≡ roomed n (T .left)
+    pub reply-same : T' .reply ≡ T .reply
+    pub cells-same : T' .cells ≡ T .cells
+    pub cells-few : length (T .cells) ≤ 7 * rows
+
+  -- either of two
+  alike-if : (b : Bool) (x x' y y' : Told) → Alike x x' → Alike y y' → Alike (cond b x y) (cond b x' y')
+  alike-if true x x' y y' p q = p
+  alike-if false x x' y y' p q = q
+
+  pub alike-tell : (W : Worker) (r : Reply) (cells : List ℕ) → Fits rows n (W .board) → length cells ≤ 7 * rows → Alike (tell W r cells) (tell (roomed n W) r cells)
+  alike-tell W r cells f few = record { fits = f; left-same = refl; reply-same = refl; cells-same = refl; cells-few = few }
+
+  -- the round that was worked out is not told
+  alike-worked : (T T' : Told) (R R' : Round) → Alike T T' → Alike (worked T R) (worked T' R')
+  alike-worked T T' R R' a = record { fits = a .fits; left-same = a .left-same; reply-same = a .reply-same; cells-same = a .cells-same; cells-few = a .cells-few }
+
+  alike-ask : (W : Worker) → Fits rows n (W .board) → (p : Phase) (r : Reply) → Alike (asks W p r) (asks (roomed n W) p r)
+  alike-ask W f p r = alike-tell (phased W p) r [] f (omega arith)
+
+  -- ---- the end, and a connection that is lost
+
+  module _ (W : Worker) (f : Fits rows n (W .board)) where
+    alike-failing : (p : Phase) → Alike (failing W p) (failing (roomed n W) p)
+    alike-failing p =
+        rw (queued-same rows n (W .board) f)
+        (alike-tell (phased (withoutWrites W) p) _ (queuedTags (W .board)) (fits-queue rows n (W .board) f [] (omega arith)) (queued-few rows n (W .board) f))
+
+    alike-ended : Alike (ended W) (ended (roomed n W))
+    alike-ended =
+        rw (queued-same rows n (W .board) f)
+        (alike-tell (phased (stated (withoutWrites W) AtStop) Stopped) _ (queuedTags (W .board)) (fits-queue rows n (W .board) f [] (omega arith)) (queued-few rows n (W .board) f))
+
+    alike-backing-off : Alike (backingOff W) (backingOff (roomed n W))
+    alike-backing-off = alike-tell _ _ [] f (omega arith)
+
+    alike-disconnected : Alike (disconnected W) (disconnected (roomed n W))
+    unfolding disconnected
+    alike-disconnected = alike-if (isState (W .head .link) Disconnected) _ _ _ _ alike-backing-off (alike-tell _ _ [] f (omega arith))
+
+    alike-top : Alike (top W) (top (roomed n W))
+    unfolding top
+    alike-top = alike-if (W .head .link .stopping) _ _ _ _ alike-ended (alike-ask W f Connect reply.connect)
+
+  alike-staling : (W : Worker) → Fits rows n (W .board) → Alike (staling W) (staling (roomed n W))
+  unfolding staling
+  alike-staling W f =
+      let C = staledIn (W .board) in
+      let next = withBoard W (C .board) in
+      let g = stale-fits rows n (W .board) f in
+      rw (stale-same rows n (W .board) f)
+      (alike-if (isEmpty (C .changes)) _ _ _ _ (alike-disconnected next g)
+      (alike-tell (phased next StaleTold) _ _ g (changes-few rows n (W .board) f (C .board .table .tags) (C .changes) (stale-few rows n (W .board) f))))
+
+  alike-down : (W : Worker) → Fits rows n (W .board) → Alike (down W) (down (roomed n W))
+  unfolding down
+  alike-down W f = alike-if (W .head .link .stopping) _ _ _ _ (alike-ended W f) (alike-if (isEmpty (W .board .queue)) _ _ _ _ (alike-staling W f) (alike-failing W f FailedTold))
+
+  -- ---- rounds, and the writes behind them
+
+  module _ (at : At) where
+    alike-polls : (W : Worker) → Fits rows n (W .board) → Alike (polls W) (polls (roomed n W))
+    alike-polls W f = alike-tell W _ [] f (omega arith)
+
+    alike-waiting : (W : Worker) → Fits rows n (W .board) → Alike (waiting W at) (waiting (roomed n W) at)
+    alike-waiting W f = alike-ask W f Wait _
+
+    alike-idle : (W : Worker) → Fits rows n (W .board) → Alike (idle W at) (idle (roomed n W) at)
+    unfolding idle
+    alike-idle W f = alike-if (le (remaining W at) (rounded binary64 false 1 10000)) _ _ _ _ (alike-polls W f) (alike-waiting W f)
+
+    alike-tail : (W : Worker) → Fits rows n (W .board) → Alike (tail W at) (tail (roomed n W) at)
+    unfolding tail
+    alike-tail W f =
+        let next = tallied W (tailStats (W .head .stats) (elapsed W at) (W .head .progress .tick) (at .wall)) in
+        alike-if (le (elapsed W at) (W .head .progress .tick)) _ _ _ _ (alike-idle next f) (alike-polls next f)
+
+    alike-resume : (W : Worker) → Fits rows n (W .board) → (a : After) → Alike (resume W at a) (resume (roomed n W) at a)
+    unfolding resume
+    alike-resume W f Tail = alike-tail W f
+    alike-resume W f Idle = alike-idle W f
+    alike-resume W f End = alike-ended W f
+
+    alike-writing-of : (W : Worker) → Fits rows n (W .board) → (a : After) (p : Popped) → Alike (writingOf W at a p) (writingOf (roomed n W) at a p)
+    unfolding writingOf
+    alike-writing-of W f a Nothing = alike-resume W f a
+    alike-writing-of W f a (Is w) =
+        alike-tell _ _ [] (fits-queue rows n (W .board) f (rest (W .board .queue)) (omega (arith, length-drop 1 (W .board .queue), f .queue-few))) (omega arith)
+
+    alike-writing : (W : Worker) → Fits rows n (W .board) → (a : After) → Alike (writing W at a) (writing (roomed n W) at a)
+    alike-writing W f a = alike-writing-of W f a (popped (W .board .queue))
+
+    alike-checking : (W : Worker) → Fits rows n (W .board) → Alike (checking W at) (checking (roomed n W) at)
+    unfolding checking
+    alike-checking W f = alike-if (W .head .progress .boundary) _ _ _ _ (alike-ask W f AskVersion reply.version) (alike-writing W f Tail)
+
+    alike-reading : (W : Worker) → Fits rows n (W .board) → Alike (reading W at) (reading (roomed n W) at)
+    unfolding reading
+    alike-reading W f =
+        let B = describing (W .board) in
+        let next = tallied (withBoard W B) (readStats (W .head .stats) (length (W .board .asked))) in
+        let g = describing-fits rows n (W .board) f in
+        rw (asked-same rows n (W .board) f)
+        (alike-if (isEmpty (B .asked)) _ _ _ _ (alike-checking next g) (alike-tell (phased next Describe) _ _ g (omega (arith, asked-few rows n (W .board) f))))
+
+    -- Rule 6: a round
+    module _ (W : Worker) (f : Fits rows n (W .board)) (l : Listed (W .board .table)) where
+      abbrev B : Board
+      B = W .board
+
+      abbrev R : Round
+      R = roundAt W at
+
+      all-groups : maxGroups ≤ n
+      all-groups = omega (arith, f .rooms .writes-fit, f .rooms .more)
+
+      round-few : length (R .list) ≤ B .askedRoom
+      round-few = list-few (byKeys (B .keys)) rows (B .askedRoom) n (W .head .options) (pollingOf B (W .head .cycle)) (at .clock) l (f .table-fits) (f .groups-fit) (f .rooms .tags-fit) (f .rooms .more) all-groups
+
+      worked-fits : Fits rows n (withWorked W at R .board)
+      worked-fits =
+          let r = f .rooms in
+          let o = W .head .options in
+          let P = pollingOf B (W .head .cycle) in
+          let less = byKeys (B .keys) in
+          record {
+            table-fits = round-fits less rows (B .askedRoom) n o P (at .clock) l (f .table-fits) (f .groups-fit) (r .tags-fit) (r .more) all-groups;
+            groups-fit = groups-fit less rows (B .askedRoom) n o P (at .clock) l (f .table-fits) (f .groups-fit) (r .tags-fit) (r .more) all-groups;
+            named = f .named;
+            asked-few = round-few;
+            queue-few = f .queue-few;
+            rooms = r;
+          }
+
+      alike-polled : (R' : Round) → R' .tick ≡ R .tick → R' .boundary ≡ R .boundary → R' .after ≡ pollingRoomed n (R .after) → R' .list ≡ R .list → Alike (polled W at R) (polled (roomed n W) at R')
+      unfolding polled
+      alike-polled R' a b c d =
+          let next = withWorked W at R in
+          rw (a, b, c, d)
+          (alike-worked _ _ R _
+          (alike-if (isEmpty (R .list)) _ _ _ _ (alike-reading next worked-fits) (alike-tell (phased next Read) _ (R .list) worked-fits (omega (arith, round-few, f .rooms .cells-fit)))))
+
+      alike-poll : Alike (poll W at) (poll (roomed n W) at)
+      unfolding poll
+      alike-poll =
+          let r = f .rooms in
+          let o = W .head .options in
+          let P = pollingOf B (W .head .cycle) in
+          let less = byKeys (B .keys) in
+          alike-if (W .head .link .stopping) _ _ _ _ (alike-writing W f End)
+          (alike-polled (roundAt (roomed n W) at)
+          (tick-same less rows (B .askedRoom) n o P (at .clock) l (f .table-fits) (f .groups-fit) (r .tags-fit) (r .more) all-groups)
+          (boundary-same less rows (B .askedRoom) n o P (at .clock) l (f .table-fits) (f .groups-fit) (r .tags-fit) (r .more) all-groups)
+          (after-same less rows (B .askedRoom) n o P (at .clock) l (f .table-fits) (f .groups-fit) (r .tags-fit) (r .more) all-groups)
+          (list-same less rows (B .askedRoom) n o P (at .clock) l (f .table-fits) (f .groups-fit) (r .tags-fit) (r .more) all-groups))
+
+    -- what T' tells, in terms of T
+    told-same : (T T' : Told) → Alike T T' → T' ≡ record { left = roomed n (T .left); reply = T .reply; cells = T .cells; round = T' .round }
+    told-same T T' a =
+        let t : Worker → Reply → List ℕ → Told = λ W r cells. record { left = W; reply = r; cells = cells; round = T' .round } in
+        ap (λ (W : Worker). t W (T' .reply) (T' .cells)) (a .left-same) ∙ ap (λ (r : Reply). t (roomed n (T .left)) r (T' .cells)) (a .reply-same) ∙ ap (λ (l : List ℕ). t (roomed n (T .left)) (T .reply) l) (a .cells-same)
+
+    alike-lastly : (T T' : Told) → Alike T T' → Alike (lastly T at) (lastly T' at)
+    alike-lastly T T' a =
+        let w = alike-waiting (T .left) (a .fits) in
+        let x : Alike (record { left = waiting (T .left) at .left; reply = waiting (T .left) at .reply; cells = []; round = T .round }) (record { left = waiting (roomed n (T .left)) at .left; reply = waiting (roomed n (T .left)) at .reply; cells = []; round = T' .round })
+        = record { fits = w .fits; left-same = w .left-same; reply-same = w .reply-same; cells-same = refl; cells-few = omega arith } in
+        rw (told-same T T' a) (alike-if (goesOn T) _ _ T _ x (record { fits = a .fits; left-same = refl; reply-same = refl; cells-same = refl; cells-few = a .cells-few }))
+
+    pub alike-finished : (T T' : Told) → Alike T T' → Listed (T .left .board .table) → Alike (finished T at) (finished T' at)
+    unfolding finished
+    alike-finished T T' a l =
+        rw (told-same T T' a)
+        (alike-if (goesOn T) _ _ T _ (alike-lastly (poll (T .left) at) (poll (roomed n (T .left)) at) (alike-poll (T .left) (a .fits) l))
+        (record { fits = a .fits; left-same = refl; reply-same = refl; cells-same = refl; cells-few = a .cells-few }))
+
+  -- ---- answers
+
+  alike-connected : (W : Worker) → Fits rows n (W .board) → Alike (connected W) (connected (roomed n W))
+  unfolding connected
+  alike-connected W f = alike-if (isState (W .head .link) Connected) _ _ _ _ (alike-tell (linked W (withAttempt (W .head .link) 0)) _ [] f (omega arith)) (alike-tell _ _ [] f (omega arith))
+
+  alike-reconnecting : (W : Worker) → Fits rows n (W .board) → Alike (reconnecting W) (reconnecting (roomed n W))
+  unfolding reconnecting
+  alike-reconnecting W f = alike-if (isState (W .head .link) Connecting) _ _ _ _ (alike-top (tallied W (reconnected (W .head .stats))) f) (alike-tell _ _ [] f (omega arith))
+
+  alike-opened : (W : Worker) → Fits rows n (W .board) → Alike (opened W) (opened (roomed n W))
+  unfolding opened
+  alike-opened W f = alike-if (isEmpty (W .board .queue)) _ _ _ _ (alike-ask W f OpenVersion reply.version) (alike-failing W f OpenFailedTold)
+
+  -- check 14 has let the settings in
+  fits-versioned : (W : Worker) → Fits rows n (W .board) → (connecting : Bool) (a : Answer) → settingsOk (W .head .count) (a .list) ≡ true → Fits rows n (versioned W connecting a .board)
+  fits-versioned W f connecting a ok =
+      let old = W .head .link .version in
+      let T = W .board .table in
+      fits-records rows n (W .board) f _ (version-graces old (numberOf a) connecting (a .list) (T .words) (T .tags))
+      (numbered-version (W .head .count) (a .list) ok old (numberOf a) connecting (T .words) (T .tags) (f .table-fits .numbered))
+
+  alike-open-version : (W : Worker) → Fits rows n (W .board) → (a : Answer) → settingsOk (W .head .count) (a .list) ≡ true → Alike (openVersion W a) (openVersion (roomed n W) a)
+  unfolding openVersion
+  alike-open-version W f a ok =
+      let g = fits-versioned W f true a ok in
+      alike-if (isReloaded (W .head .link .version) (numberOf a)) _ _ _ _ (alike-tell _ _ [] g (omega arith)) (alike-connected (versioned W true a) g)
+
+  alike-round-version : (W : Worker) → Fits rows n (W .board) → (at : At) (a : Answer) → settingsOk (W .head .count) (a .list) ≡ true → Alike (roundVersion W at a) (roundVersion (roomed n W) at a)
+  unfolding roundVersion
+  alike-round-version W f at a ok =
+      let g = fits-versioned W f false a ok in
+      alike-if (isReloaded (W .head .link .version) (numberOf a)) _ _ _ _ (alike-tell _ _ [] g (omega arith)) (alike-writing at (versioned W false a) g Tail)
+
+  alike-results : (W : Worker) → Fits rows n (W .board) → (at : At) (a : Answer) → Alike (results W at a) (results (roomed n W) at a)
+  unfolding results
+  alike-results W f at a =
+      let start = W .head .progress .start in
+      let C = appliedTo (W .board) (a .list) start (at .wall) true in
+      let next = withBoard W (C .board) in
+      let g = applied-fits rows n (W .board) f (a .list) start (at .wall) true in
+      rw (applied-same rows n (W .board) f (a .list) start (at .wall) true)
+      (alike-if (eqb (a .kind) 6) _ _ _ _ (alike-down W f)
+      (alike-if (isEmpty (C .changes)) _ _ _ _ (alike-reading at next g)
+      (alike-tell (phased next ValuesTold) _ _ g (changes-few rows n (W .board) f (C .board .table .tags) (C .changes) (applied-few rows n (W .board) f (a .list) start (at .wall) true)))))
+
+  -- either of two
+  cond-known : (b : Bool) (x y : List Tag) (P : List Tag → Type 0) → P x → P y → P (cond b x y)
+  cond-known true x y P p q = p
+  cond-known false x y P p q = q
+
+  alike-descriptions : (W : Worker) → Fits rows n (W .board) → (a : Answer) → Alike (descriptions W a) (descriptions (roomed n W) a)
+  unfolding descriptions
+  alike-descriptions W f a =
+      let B = W .board in
+      let tags = B .table .tags in
+      let known = cond (eqb (a .kind) 9) (learnt (a .list) (B .asked) tags) (learntNone (B .asked) tags) in
+      let found = take (foundCount (a .list)) (B .asked) in
+      let none : ℕ → Description = λ i. NoDescription in
+      let e : map isGraced known ≡ map isGraced tags = cond-known (eqb (a .kind) 9) _ _ (λ (l : List Tag). map isGraced l ≡ map isGraced tags)
+      (known-kept isGraced (λ x d. refl) (foundIn (a .list)) 0 found tags) (known-kept isGraced (λ x d. refl) none 0 (B .asked) tags) in
+      let s : map settingsOf known ≡ map settingsOf tags = cond-known (eqb (a .kind) 9) _ _ (λ (l : List Tag). map settingsOf l ≡ map settingsOf tags)
+      (known-kept settingsOf (λ x d. refl) (foundIn (a .list)) 0 found tags) (known-kept settingsOf (λ x d. refl) none 0 (B .asked) tags) in
+      alike-tell (phased (withBoard W (withRecords B known)) InfoTold) _ (B .asked) (fits-records rows n B f known e (numbered-same known tags s (f .table-fits .numbered)))
+      (omega (arith, f .asked-few, f .rooms .cells-fit))
+
+  -- a tag and its word are two at most
+  back-few : (words : List ℕ) (k : ℕ) → length (readBackTags words k) ≤ maxWrites
+  back-few words k = go (ltb 1 (getD words k 0))
+    where
+      go : (b : Bool) → suc (length (cond b ((getD words k 0 - 2) ∷ []) [])) ≤ maxWrites
+      go true = omega arith
+      go false = omega arith
+
+  back-same : (W : Worker) → Fits rows n (W .board) → (k : ℕ) → take n (readBackTags (W .board .table .words) k) ≡ take (W .board .askedRoom) (readBackTags (W .board .table .words) k)
+  back-same W f k =
+      let few = back-few (W .board .table .words) k in
+      let r = f .rooms in
+      cut-same n (W .board .askedRoom) (readBackTags (W .board .table .words) k) (omega (arith, few, r .writes-fit, r .more)) (omega (arith, few, r .writes-fit))
+
+  alike-written : (W : Worker) → Fits rows n (W .board) → (a : Answer) → Alike (written W a) (written (roomed n W) a)
+  unfolding written
+  alike-written W f a =
+      let B = W .board in
+      let k = W .head .progress .tag in
+      let asked = take (B .askedRoom) (readBackTags (B .table .words) k) in
+      let few : length asked ≤ B .askedRoom = omega (arith, length-take (B .askedRoom) (readBackTags (B .table .words) k)) in
+      rw (back-same W f k)
+      (alike-if (eqb (a .kind) 7) _ _ _ _ (alike-tell (phased (withBoard W (withAsked B asked)) ReadBack) _ asked (fits-asked rows n B f asked few) (omega (arith, few, f .rooms .cells-fit)))
+      (alike-if (eqb (a .kind) 8) _ _ _ _ (alike-ask W f RefusedTold _) (alike-ask W f LostTold _)))
+
+  alike-read-back : (W : Worker) → Fits rows n (W .board) → (a : Answer) → Alike (readBack W a) (readBack (roomed n W) a)
+  unfolding readBack
+  alike-read-back W f a =
+      let B = W .board in
+      let few = length-take (resultCount (a .list)) (B .asked) in
+      let g : Fits rows n (withAsked B (take (resultCount (a .list)) (B .asked))) = fits-asked rows n B f _ (omega (arith, few, f .asked-few)) in
+      alike-if (eqb (a .kind) 6) _ _ _ _ (alike-ask W f LostTold _)
+      (alike-tell (phased (withBoard W (keptBack B (a .list))) OutcomeTold) _ []
+      (record { table-fits = g .table-fits; groups-fit = g .groups-fit; named = g .named; asked-few = g .asked-few; queue-few = g .queue-few; rooms = g .rooms }) (omega arith))
+
+  alike-back-applied : (W : Worker) → Fits rows n (W .board) → (at : At) → Alike (backApplied W at) (backApplied (roomed n W) at)
+  unfolding backApplied
+  alike-back-applied W f at =
+      let B = W .board in
+      let C = appliedTo B (B .back) (at .clock) (at .wall) false in
+      let next = withBoard W (C .board) in
+      let g = applied-fits rows n B f (B .back) (at .clock) (at .wall) false in
+      rw (applied-same rows n B f (B .back) (at .clock) (at .wall) false)
+      (alike-if (isEmpty (C .changes)) _ _ _ _ (alike-writing at next g (W .head .progress .after))
+      (alike-tell (phased next BackTold) _ _ g (changes-few rows n B f (C .board .table .tags) (C .changes) (applied-few rows n B f (B .back) (at .clock) (at .wall) false))))
+
+  alike-waited : (W : Worker) → Fits rows n (W .board) → (at : At) → Alike (waited W at) (waited (roomed n W) at)
+  unfolding waited
+  alike-waited W f at = alike-writing at W f _
+
+  alike-backed-off : (W : Worker) → Fits rows n (W .board) → Alike (backedOff W) (backedOff (roomed n W))
+  unfolding backedOff
+  alike-backed-off W f = alike-if (W .head .link .stopping) _ _ _ _ (alike-ended W f) (alike-reconnecting W f)
+
+  alike-connect-answered : (W : Worker) → Fits rows n (W .board) → (a : Answer) → Alike (connectAnswered W a) (connectAnswered (roomed n W) a)
+  alike-connect-answered W f a = alike-if (eqb (a .kind) 1) _ _ _ _ (alike-opened W f) (alike-down W f)
+
+  alike-taken : (p : Phase) (W : Worker) → Fits rows n (W .board) → (at : At) → Alike (taken p W at) (taken p (roomed n W) at)
+  unfolding taken
+  alike-taken Begin W f at = alike-top W f
+  alike-taken Connect W f at = alike-top W f
+  alike-taken OpenVersion W f at = alike-top W f
+  alike-taken AskVersion W f at = alike-top W f
+  alike-taken Read W f at = alike-top W f
+  alike-taken Describe W f at = alike-top W f
+  alike-taken AskWrite W f at = alike-top W f
+  alike-taken ReadBack W f at = alike-top W f
+  alike-taken Wait W f at = alike-top W f
+  alike-taken Backoff W f at = alike-top W f
+  alike-taken OpenFailedTold W f at = alike-ask W f OpenVersion reply.version
+  alike-taken OpenMetaTold W f at = alike-connected W f
+  alike-taken ConnectedTold W f at = alike-polls at W f
+  alike-taken MetaTold W f at = alike-writing at W f Tail
+  alike-taken ValuesTold W f at = alike-reading at W f
+  alike-taken InfoTold W f at = alike-checking at W f
+  alike-taken RefusedTold W f at = alike-writing at W f (W .head .progress .after)
+  alike-taken LostTold W f at = alike-down W f
+  alike-taken OutcomeTold W f at = alike-back-applied W f at
+  alike-taken BackTold W f at = alike-writing at W f (W .head .progress .after)
+  alike-taken FailedTold W f at = alike-staling W f
+  alike-taken StaleTold W f at = alike-disconnected W f
+  alike-taken DisconnectedTold W f at = alike-backing-off W f
+  alike-taken ConnectingTold W f at = alike-top W f
+  alike-taken Stopped W f at = alike-top W f
+
+  -- Check 14 of a version's settings, where that is what the phase waits for
+  settings-met : (W : Worker) (a : Answer) → either (a .kind) 3 4 ≡ true → contents W a ≡ 0 → settingsOk (W .head .count) (a .list) ≡ true
+  unfolding contents
+  settings-met W a k e = go (settingsOk (W .head .count) (a .list)) refl (rw k at e)
+    where
+      go : (b : Bool) → settingsOk (W .head .count) (a .list) ≡ b → _≡_ {A = ℕ} (cond b 0 14) 0 → settingsOk (W .head .count) (a .list) ≡ true
+      go true q h = q
+      go false q h = absurd (omega arith)
+
+  pub alike-handled : (p : Phase) (W : Worker) → Fits rows n (W .board) → (at : At) (a : Answer) → answers (awaited p) a ≡ true → contents W a ≡ 0 → Alike (handled p W at a) (handled p (roomed n W) at a)
+  unfolding handled answers awaited
+  alike-handled Begin W f at a k e = alike-top W f
+  alike-handled Connect W f at a k e = alike-connect-answered W f a
+  alike-handled OpenVersion W f at a k e = alike-open-version W f a (settings-met W a k e)
+  alike-handled AskVersion W f at a k e = alike-round-version W f at a (settings-met W a k e)
+  alike-handled Read W f at a k e = alike-results W f at a
+  alike-handled Describe W f at a k e = alike-descriptions W f a
+  alike-handled AskWrite W f at a k e = alike-written W f a
+  alike-handled ReadBack W f at a k e = alike-read-back W f a
+  alike-handled Wait W f at a k e = alike-waited W f at
+  alike-handled Backoff W f at a k e = alike-backed-off W f
+  alike-handled OpenFailedTold W f at a k e = alike-taken OpenFailedTold W f at
+  alike-handled OpenMetaTold W f at a k e = alike-taken OpenMetaTold W f at
+  alike-handled ConnectedTold W f at a k e = alike-taken ConnectedTold W f at
+  alike-handled MetaTold W f at a k e = alike-taken MetaTold W f at
+  alike-handled ValuesTold W f at a k e = alike-taken ValuesTold W f at
+  alike-handled InfoTold W f at a k e = alike-taken InfoTold W f at
+  alike-handled RefusedTold W f at a k e = alike-taken RefusedTold W f at
+  alike-handled LostTold W f at a k e = alike-taken LostTold W f at
+  alike-handled OutcomeTold W f at a k e = alike-taken OutcomeTold W f at
+  alike-handled BackTold W f at a k e = alike-taken BackTold W f at
+  alike-handled FailedTold W f at a k e = alike-taken FailedTold W f at
+  alike-handled StaleTold W f at a k e = alike-taken StaleTold W f at
+  alike-handled DisconnectedTold W f at a k e = alike-taken DisconnectedTold W f at
+  alike-handled ConnectingTold W f at a k e = alike-taken ConnectingTold W f at
+  alike-handled Stopped W f at a k e = alike-taken Stopped W f at

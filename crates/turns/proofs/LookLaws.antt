@@ -1,0 +1,111 @@
+-- Looks are never cut: an engine has no more groups and tags than the places that a look asks for.
+use mathlib.Core.Path.{_≡_, refl}
+use mathlib.Core.List.{List, [], _∷_, _++_, map}
+use Prim.Native.Nat.{ℕ, _*_, _/_, _%_, _≤_, _<_}
+use native.Mathlib.Nat.{mod-eq-of-lt}
+use native.Mathlib.Omega.{arith}
+use lib.ListN.{length, drop, length-append, length-map}
+use borrow.Author.Tests.{le-ltb, le-leb}
+use Rattle.lists.specs.Keep.{Below}
+use Rattle.lists.proofs.KeepLaws.{below-append, below-more}
+use Rattle.lists.proofs.CountLaws.{length-few}
+use Rattle.names.specs.Directory.{namesOf}
+use Rattle.tiers.proofs.ListedLaws.{order-below}
+use Rattle.rounds.proofs.OnceLaws.{order-once}
+use Rattle.rounds.specs.declared.tick.Options.{Options}
+use Rattle.panel.specs.Panel.{tierIn, panelOf, written, writtenLength}
+use Rattle.lent.specs.Lent.{records, wroteCells}
+use Rattle.lent.proofs.LentLaws.{length-records, all-fits}
+use Rattle.statistics.specs.Stats.{statCells, groupsTold}
+use Rattle.statistics.proofs.NumberLaws.{firsts-few}
+use Rattle.settings.specs.Settings.{maxGroups}
+use Rattle.board.specs.Board.{factsOf, rowCells}
+use Rattle.board.specs.Creation.{listRoom, tagRoom}
+use Rattle.worker.specs.Worker.{Worker}
+use Rattle.capi.specs.Looks.{groupCells, panelBytes}
+use Rattle.turns.specs.Calls.{Call, tier, load, steps, write, stop, lookState, lookStats, lookCounts, lookGroups, lookTable, lookPanel, lookTag, answer}
+use Rattle.turns.specs.Demand.{moment}
+use Rattle.turns.specs.Looks.{all, groupsIn, orderIn, panelIn, WholeLook, LooksWhole}
+use Rattle.turns.proofs.SoundLaws.{Sound}
+use Rattle.turns.proofs.FitLaws.{numbersOf, Fits}
+use Rattle.turns.proofs.UncutLaws.{each-fit}
+
+-- numbers below 256 are bytes
+bytes-same : (l : List ℕ) → Below 256 l → map (λ (k : ℕ). k % 256) l ≡ l
+bytes-same [] b = refl
+bytes-same (k ∷ l) b = rw (mod-eq-of-lt (b .0), bytes-same l (b .1))
+
+module _ (o : Options) (ns : List (List ℕ)) (n : ℕ) (W : Worker) (s : Sound o ns W) (f : Fits tagRoom n (W .board)) where
+  -- ---- groups
+
+  groups-few : length (groupsIn W) ≤ 16
+  groups-few =
+      let B = W .board in
+      firsts-few maxGroups _ (below-append maxGroups (numbersOf (B .configured)) (B .groups .recorded) (f .named) (f .groups-fit .numbers .below))
+
+  groups-told : (out : List ℕ) → 16 ≤ length out / 40 → answer (lookGroups out) W ≡ all (length (groupsIn W)) (wroteCells out (groupCells W))
+  unfolding answer groupsTold
+  groups-told out h =
+      let long : length (groupCells W) ≡ 5 * length (groupsIn W) = length-records (statCells (factsOf (W .board))) 5 (λ k. refl) (groupsIn W) in
+      let room : 8 * length (groupCells W) ≤ length out = omega (arith, long, groups-few) in
+      rw (le-ltb (length out / 40) 16 h, le-leb (8 * length (groupCells W)) (length out) room, all-fits out (groupCells W) room)
+
+  -- ---- the table
+
+  order-few : length (orderIn W) ≤ 120
+  order-few =
+      let T = W .board .table in
+      omega (arith, length-few (length (T .tags)) (T .order) (order-below T (s .listed)) (order-once T (s .listed)), f .table-fits .long)
+
+  table-told : (out : List ℕ) → 120 ≤ length out / 16 → answer (lookTable out) W ≡ all (length (orderIn W)) (wroteCells out (records (rowCells (W .board)) (orderIn W)))
+  unfolding answer
+  table-told out h =
+      let cells = records (rowCells (W .board)) (orderIn W) in
+      let long : length cells ≡ 2 * length (orderIn W) = length-records (rowCells (W .board)) 2 (λ k. refl) (orderIn W) in
+      rw (
+        le-ltb (length out / 16) (length (W .board .table .tags)) (omega (arith, h, f .table-fits .long)),
+        le-ltb (length out / 16) (length (orderIn W)) (omega (arith, h, order-few)),
+        all-fits out cells (omega (arith, h, long, order-few)),
+      )
+
+  -- ---- the panel list
+
+  order-bytes : Below 256 (orderIn W)
+  order-bytes =
+      let T = W .board .table in
+      below-more (length (T .tags)) 256 (T .order) (omega (arith, f .table-fits .long)) (order-below T (s .listed))
+
+  panel-bytes : panelBytes W ≡ panelIn W
+  unfolding panelOf
+  panel-bytes =
+      let h : length (orderIn W) < 256 = omega (arith, order-few) in
+      rw (bytes-same (orderIn W) order-bytes, mod-eq-of-lt h)
+
+  panel-few : length (panelIn W) ≤ 241
+  panel-few =
+      let tiers = map (tierIn (W .board .table .tags)) (orderIn W) in
+      omega (arith, length-append (orderIn W) tiers, length-map (orderIn W) (tierIn (W .board .table .tags)), order-few)
+
+  panel-told : (out : List ℕ) → 241 ≤ length out → answer (lookPanel out) W ≡ all (length (panelIn W)) (panelIn W ++ drop (length (panelIn W)) out)
+  unfolding answer written writtenLength
+  panel-told out h = rw (panel-bytes, le-ltb (length out) 241 h, le-leb (length (panelIn W)) (length out) (omega (arith, h, panel-few)))
+
+  whole-look : (c : Call) → WholeLook (moment c W)
+  unfolding WholeLook
+  whole-look (tier clock tag to) = tt
+  whole-look (load clock list) = tt
+  whole-look (steps clock wall kind number message list out) = tt
+  whole-look (write tag kind word) = tt
+  whole-look stop = tt
+  whole-look lookState = tt
+  whole-look lookStats = tt
+  whole-look lookCounts = tt
+  whole-look (lookGroups out) = (groups-few, groups-told out)
+  whole-look (lookTable out) = (order-few, table-told out)
+  whole-look (lookPanel out) = (panel-few, panel-told out)
+  whole-look (lookTag tag) = tt
+
+-- Every look of every list of calls.
+pub looks-whole : LooksWhole
+unfolding LooksWhole
+looks-whole s e cs = each-fit s e listRoom (omega arith) WholeLook (λ c W v f. whole-look (s .options) (namesOf (s .names) (s .ends)) listRoom W v f c) cs

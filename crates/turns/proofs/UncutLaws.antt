@@ -1,0 +1,412 @@
+-- No list is ever cut: every call of an engine comes to the same with more room.
+use mathlib.Core.Path.{_≡_, refl, ap, sym, _∙_}
+use mathlib.Core.Bool.{Bool, true, false, not, _&&_, cond, true≢false}
+use mathlib.Core.List.{List, [], _∷_, _++_, map}
+use mathlib.Core.Option.{some}
+use Prim.Native.Nat.{ℕ, zero, suc, _*_, _/_, _%_, _≤_, _<_}
+use native.Mathlib.Omega.{arith}
+use lib.Dec.{eqb, ltb, leb}
+use lib.Ieee.{Float}
+use lib.ListN.{length, getD, take, replicate, length-append, length-map, length-replicate}
+use lib.Seq.{take-all}
+use borrow.Author.Tests.{eqb-true, ltb-true, ltb-false, leb-true, leb-false, lt-ltb}
+use Rattle.lists.specs.Keep.{Below, upTo}
+use Rattle.lists.specs.Sort.{byKeys}
+use Rattle.lists.proofs.KeepLaws.{below-more, length-upTo}
+use Rattle.names.specs.Directory.{namesOf, directoryCheck, maxNames, maxNameLength}
+use Rattle.names.specs.Keys.{keyOf}
+use Rattle.names.proofs.DirectoryLaws.{length-names}
+use Rattle.ranks.specs.Ranks.{over, keysOf, wordCode, wordsOf, eachTag}
+use Rattle.words.specs.Value.{valueFrom}
+use Rattle.memory.proofs.RowLaws.{map-at}
+use Rattle.values.specs.declared.value.Value.{Value}
+use Rattle.table.specs.Tag.{freshTag}
+use Rattle.tiers.specs.Tiers.{Table, setTier}
+use Rattle.panel.specs.Panel.{panelCheck, tagsOf, tiersOf}
+use Rattle.settings.specs.Records.{recordsIn, every}
+use Rattle.settings.specs.Settings.{settingsOk, maxGroups, rateOk}
+use Rattle.settings.specs.Configured.{configuredFrom, givenGroups, groupOk, configuredOk}
+use Rattle.settings.proofs.GroupLaws.{length-given}
+use Rattle.readings.specs.Results.{valueOk}
+use Rattle.versions.specs.Versions.{tagTaken, takenAt, tableTaken}
+use Rattle.rounds.specs.Options.{optionsCheck}
+use Rattle.rounds.specs.Round.{Round}
+use Rattle.rounds.specs.declared.tick.Options.{Options}
+use Rattle.engine.specs.Link.{isState}
+use Rattle.engine.specs.declared.link.State.the-variants.{Connected}
+use Rattle.engine.specs.declared.progress.After.the-variants.{End}
+use Rattle.lent.specs.Lent.{wroteAll, wroteCells}
+use Rattle.lent.proofs.LentLaws.{all-fits}
+use Rattle.histories.specs.Events.{Each}
+use Rattle.histories.specs.Histories.{atEach, answers, states}
+use Rattle.board.specs.Board.{Board, withTable, pollingOf}
+use Rattle.board.specs.Creation.{freshBoard, freshWords, noNumbers, tagRoom, listRoom, configuredRoom}
+use Rattle.worker.specs.Worker.{Worker, At, Told, tell, at, goesOn}
+use Rattle.worker.specs.Polling.{waiting, writing, roundAt, polled, poll, lastly, finished}
+use Rattle.worker.specs.Reply as reply
+use Rattle.worker.specs.Answers.{Answer, contents, stepCheck, clocked, stepped, step}
+use Rattle.capi.specs.Calls.{clockCheck, noTag, tierCheck, tiered, loadCheck, writeCheck, writeOf, wrote, maxWrites, answerOf}
+use Rattle.capi.specs.Calls as calls
+use Rattle.capi.specs.Creation.{Setup, creationCheck, freshWorker}
+use Rattle.turns.specs.Calls.{Call, tier, load, steps, write, stop, lookState, lookStats, lookCounts, lookGroups, lookTable, lookPanel, lookTag, Answer as Said, accepted, answer, after}
+use Rattle.turns.specs.Demand.{Moment, moment}
+use Rattle.turns.specs.Once.{answeredTo}
+use Rattle.turns.specs.Uncut.{roomed, NeverCut, WholeAt, WholeStep, StepsWhole, WholeSetup, SetupsWhole}
+use Rattle.turns.proofs.KeepLaws.{Keeps}
+use Rattle.turns.proofs.StillLaws.{still-writing, still-handled}
+use Rattle.turns.proofs.StepLaws.{Accepted, accepted-step, step-cases}
+use Rattle.turns.proofs.SoundLaws.{Sound, sound-kept, sound-clocked}
+use Rattle.turns.proofs.CallLaws.{first-zero, tier-inside, panel-inside, names-few, settings-good, sound-fresh, sound-after}
+use Rattle.turns.proofs.FitLaws.{isGraced, numbered-taken, FitTable, numbersOf, Fits}
+use Rattle.turns.proofs.RoomLaws.{tier-roomed, fit-tier, load-roomed, whole}
+use Rattle.turns.proofs.AlikeLaws.{each-kept, fits-queue, Alike, alike-tell, alike-finished, alike-handled}
+
+-- ---- a step
+
+module _ (o : Options) (ns : List (List ℕ)) (rows n : ℕ) where
+  module _ (W : Worker) (s : Sound o ns W) (f : Fits rows n (W .board)) (at : At) (a : Answer) where
+    -- the engine as an accepted answer leaves it is listed
+    answered-sound : Accepted W at a → Sound o ns (answeredTo W at a .left)
+    answered-sound c =
+        let N = clocked W at in
+        let kept : Keeps N (answeredTo W at a .left) = still-handled (W .head .progress .phase) N at a (c .awaits) (unfold contents in c .holds) .keeps in
+        sound-kept N (answeredTo W at a .left) kept o ns (sound-clocked o ns W at a c s)
+
+    alike-answered : Accepted W at a → Alike rows n (answeredTo W at a) (answeredTo (roomed n W) at a)
+    alike-answered c = alike-handled rows n (W .head .progress .phase) (clocked W at) f at a (c .awaits) (unfold contents in c .holds)
+
+    alike-stepped : Accepted W at a → Alike rows n (stepped W at a) (stepped (roomed n W) at a)
+    unfolding stepped
+    alike-stepped c = alike-finished rows n at (answeredTo W at a) (answeredTo (roomed n W) at a) (alike-answered c) (answered-sound c .listed)
+
+    pub alike-step : (out : ℕ) → Alike rows n (step W at a out) (step (roomed n W) at a out)
+    unfolding step stepCheck contents
+    alike-step out = go (eqb (stepCheck W at a out) 0) refl
+      where
+        go : (b : Bool) → eqb (stepCheck W at a out) 0 ≡ b
+            → Alike rows n (cond b (stepped W at a) (tell W (reply.refused (stepCheck W at a out)) [])) (cond b (stepped (roomed n W) at a) (tell (roomed n W) (reply.refused (stepCheck W at a out)) []))
+        go true e = alike-stepped (accepted-step W at a out (eqb-true (stepCheck W at a out) 0 e))
+        go false e = alike-tell rows n W (reply.refused (stepCheck W at a out)) [] f (omega arith)
+
+    -- the round that an accepted step works out
+    pub whole-answered : Accepted W at a → WholeAt (answeredTo W at a .left) at
+    whole-answered c =
+        let M = answeredTo W at a .left in
+        let g = alike-answered c .fits in
+        let r = g .rooms in
+        whole (byKeys (M .board .keys)) rows (M .board .askedRoom) n (M .head .options) (pollingOf (M .board) (M .head .cycle)) (at .clock)
+        (answered-sound c .listed) (g .table-fits) (g .groups-fit) (r .tags-fit) (r .more) (omega (arith, r .writes-fit, r .more))
+
+-- what follows a round works out none
+lastly-round : (now : At) (T : Told) → lastly T now .round ≡ T .round
+lastly-round now T = go (goesOn T)
+  where
+    go : (b : Bool) → cond b (record { left = waiting (T .left) now .left; reply = waiting (T .left) now .reply; cells = []; round = T .round }) T .round ≡ T .round
+    go true = refl
+    go false = refl
+
+-- a poll works out the round at its engine, or none
+poll-round : (now : At) (W : Worker) (R : Round) → poll W now .round ≡ some R → R ≡ roundAt W now
+unfolding poll polled
+poll-round now W R = go (W .head .link .stopping)
+  where
+    go : (b : Bool) → cond b (writing W now End) (polled W now (roundAt W now)) .round ≡ some R → R ≡ roundAt W now
+    go true e = let n = still-writing now W End .no-round in let z : _≡_ {A = ℕ} 0 1 = cc in absurd (omega arith)
+    go false e = cc
+
+stepped-round : (W : Worker) (now : At) (a : Answer) (R : Round) → Accepted W now a → stepped W now a .round ≡ some R → R ≡ roundAt (answeredTo W now a .left) now
+unfolding stepped finished
+stepped-round W now a R c = go (goesOn A)
+  where
+    A : Told
+    A = answeredTo W now a
+
+    go : (b : Bool) → cond b (lastly (poll (A .left) now) now) A .round ≡ some R → R ≡ roundAt (A .left) now
+    go true e = poll-round now (A .left) R (sym (lastly-round now (poll (A .left) now)) ∙ e)
+    go false e =
+        let n = still-handled (W .head .progress .phase) (clocked W now) now a (c .awaits) (unfold contents in c .holds) .no-round in
+        let z : _≡_ {A = ℕ} 0 1 = cc in absurd (omega arith)
+
+-- so the round of a step is the one at the engine as the answer leaves it
+step-round : (W : Worker) (now : At) (a : Answer) (out : ℕ) (R : Round) → step W now a out .round ≡ some R → Accepted W now a × (R ≡ roundAt (answeredTo W now a .left) now)
+step-round W now a out R =
+    step-cases W now a out (λ (T : Told). T .round ≡ some R → Accepted W now a × (R ≡ roundAt (answeredTo W now a .left) now))
+    (λ n e. let z : _≡_ {A = ℕ} 0 1 = cc in absurd (omega arith)) (λ c e. (c, stepped-round W now a R c e))
+
+-- ---- the list that a step is lent
+
+-- Check 43: one with fewer places than tags is refused
+out-enough : (W : Worker) (now : At) (a : Answer) (out : ℕ) → stepCheck W now a out ≡ 0 → length (W .board .table .tags) ≤ out / 56
+unfolding stepCheck
+out-enough W now a out e = go (ltb (out / 56) (length (W .board .table .tags))) refl _ e
+  where
+    go : (b : Bool) → ltb (out / 56) (length (W .board .table .tags)) ≡ b → (m : ℕ) → _≡_ {A = ℕ} (cond b 43 m) 0 → length (W .board .table .tags) ≤ out / 56
+    go true p m e = absurd (omega arith)
+    go false p m e = ltb-false (out / 56) (length (W .board .table .tags)) p
+
+-- so all cells of a step stand in it
+cells-written : (o : Options) (ns : List (List ℕ)) (rows n : ℕ) (W : Worker) → Sound o ns W → Fits rows n (W .board) → (now : At) (a : Answer) (out : List ℕ)
+    → wroteAll out (step W now a (length out) .cells) ≡ wroteCells out (step W now a (length out) .cells)
+unfolding step
+cells-written o ns rows n W s f now a out = all-fits out (step W now a (length out) .cells) (go (eqb (stepCheck W now a (length out)) 0) refl)
+  where
+    go : (b : Bool) → eqb (stepCheck W now a (length out)) 0 ≡ b → 8 * length (step W now a (length out) .cells) ≤ length out
+    go true e =
+        let few = alike-step o ns rows n W s f now a (length out) .cells-few in
+        omega (arith, few, f .table-fits .long, out-enough W now a (length out) (eqb-true (stepCheck W now a (length out)) 0 e))
+    go false e = rw e (omega arith)
+
+-- ---- every call
+
+module _ (o : Options) (ns : List (List ℕ)) (rows n : ℕ) where
+  -- A call with more room: the engine that it leaves fits, and is the same but for the rooms; so is the answer.
+  record Same (c : Call) (W : Worker) : Type 0 where
+    fits : Fits rows n (after c W .board)
+    after-same : after c (roomed n W) ≡ roomed n (after c W)
+    answer-same : answer c (roomed n W) ≡ answer c W
+
+  -- a call whose checks came to m: what it leaves
+  record Left (m : ℕ) (done done' W : Worker) : Type 0 where
+    left-fits : Fits rows n (accepted m done W .board)
+    left-same : accepted m done' (roomed n W) ≡ roomed n (accepted m done W)
+
+  left-if : (m : ℕ) (done done' W : Worker) → (m ≡ 0 → Fits rows n (done .board) × (done' ≡ roomed n done)) → Fits rows n (W .board) → Left m done done' W
+  left-if m done done' W p f = go (eqb m 0) refl
+    where
+      go : (b : Bool) → eqb m 0 ≡ b → Left m done done' W
+      go true e = let d = p (eqb-true m 0 e) in record { left-fits = rw e (d .0); left-same = rw e (d .1) }
+      go false e = record { left-fits = rw e f; left-same = rw e }
+
+  -- the table replaced
+  fits-table : (B : Board) → Fits rows n B → (T : Table) → FitTable rows T → Fits rows n (withTable B T)
+  fits-table B f T t = record { table-fits = t; groups-fit = f .groups-fit; named = f .named; asked-few = f .asked-few; queue-few = f .queue-few; rooms = f .rooms }
+
+  module _ (W : Worker) (s : Sound o ns W) (f : Fits rows n (W .board)) where
+    abbrev T : Table
+    T = W .board .table
+
+    more : rows ≤ n
+    more = omega (arith, f .rooms .tags-fit, f .rooms .more)
+
+    -- Rule 5: a tier call
+    tier-left : (clock : Float) (tag to : ℕ) → Left (tierCheck W clock tag to) (tiered W clock tag to) (tiered (roomed n W) clock tag to) W
+    tier-left clock tag to =
+        left-if (tierCheck W clock tag to) _ _ W (λ e.
+        let t = f .table-fits in
+        let grace = W .head .options .grace in
+        let h : tag < length (T .tags) = omega (arith, tier-inside o ns W s clock tag to e, s .few) in (
+          fits-table (W .board) f (setTier T tag to grace clock) (fit-tier rows T (s .listed) t tag h to grace clock),
+          rw (tier-roomed n T (s .listed) (omega (arith, t .long, more)) tag h (t .graced) to grace clock),
+        )) f
+
+    -- Rule 11: a load
+    load-left : (clock : Float) (list : List ℕ) → Left (loadCheck W clock list) (calls.loaded W clock list) (calls.loaded (roomed n W) clock list) W
+    unfolding loadCheck
+    load-left clock list =
+        left-if (loadCheck W clock list) _ _ W (λ e.
+        let i = panel-inside o ns W s (W .head .count) list (first-zero (panelCheck (W .head .count) list) _ (first-zero (clockCheck W clock) _ e .1) .0) in
+        let r = load-roomed rows n more T (s .listed) (f .table-fits) (tagsOf list) (tiersOf list) (W .head .options .grace) clock (below-more (W .head .count) (length (T .tags)) (tagsOf list) (s .few) i) in
+        (fits-table (W .board) f _ (r .1), rw (r .0))) f
+
+    -- Check 32: a write that is accepted finds fewer than 32 waiting
+    few-wait : (tag : ℕ) (v : Value) → writeCheck W tag v ≡ 0 → length (W .board .queue) < maxWrites
+    unfolding writeCheck
+    few-wait tag v e = go (noTag W tag) (not (isState (W .head .link) Connected)) (leb maxWrites (length (W .board .queue))) refl (valueOk v) e
+      where
+        go : (x y z : Bool) → leb maxWrites (length (W .board .queue)) ≡ z → (u : Bool) → _≡_ {A = ℕ} (cond x 23 (cond y 31 (cond z 32 (cond u 0 42)))) 0 → length (W .board .queue) < maxWrites
+        go true y z p u e = absurd (omega arith)
+        go false true z p u e = absurd (omega arith)
+        go false false true p u e = absurd (omega arith)
+        go false false false p u e = leb-false maxWrites (length (W .board .queue)) p
+
+    -- Rule 8: a write
+    write-left : (tag : ℕ) (v : Value) → Left (writeCheck W tag v) (wrote W tag v) (wrote (roomed n W) tag v) W
+    write-left tag v =
+        left-if (writeCheck W tag v) _ _ W (λ e.
+        let q = W .board .queue in
+        let w = writeOf tag v in
+        let h = few-wait tag v e in
+        let r = f .rooms in
+        let a = lt-ltb (length q) (W .board .queueRoom) (omega (arith, h, r .queue-fits)) in
+        let b = lt-ltb (length q) n (omega (arith, h, r .writes-fit, r .more)) in
+        let long = length-append q (w ∷ []) in
+        (rw a (fits-queue rows n (W .board) f (q ++ (w ∷ [])) (omega (arith, h, long))), rw (a, b))) f
+
+    -- every call
+    same-call : (c : Call) → Same c W
+    unfolding after answer tierCheck clockCheck loadCheck writeCheck
+    same-call (tier clock tag to) = let x = tier-left clock tag to in record { fits = x .left-fits; after-same = x .left-same; answer-same = refl }
+    same-call (load clock list) = let x = load-left clock list in record { fits = x .left-fits; after-same = x .left-same; answer-same = refl }
+    same-call (steps clock wall kind number message list out) =
+        let a = alike-step o ns rows n W s f (at clock wall) (answerOf kind number message list) (length out) in
+        record { fits = a .fits; after-same = a .left-same; answer-same = rw (a .reply-same, a .cells-same) }
+    same-call (write tag kind word) = let x = write-left tag (valueFrom kind word) in record { fits = x .left-fits; after-same = x .left-same; answer-same = refl }
+    same-call stop = record { fits = f; after-same = refl; answer-same = refl }
+    same-call lookState = record { fits = f; after-same = refl; answer-same = refl }
+    same-call lookStats = record { fits = f; after-same = refl; answer-same = refl }
+    same-call lookCounts = record { fits = f; after-same = refl; answer-same = refl }
+    same-call (lookGroups out) = record { fits = f; after-same = refl; answer-same = refl }
+    same-call (lookTable out) = record { fits = f; after-same = refl; answer-same = refl }
+    same-call (lookPanel out) = record { fits = f; after-same = refl; answer-same = refl }
+    same-call (lookTag tag) = record { fits = f; after-same = refl; answer-same = refl }
+
+    -- the lists of a step
+    whole-call : (c : Call) → WholeStep (moment c W)
+    unfolding WholeStep
+    whole-call (tier clock tag to) = tt
+    whole-call (load clock list) = tt
+    whole-call (steps clock wall kind number message list out) =
+        let now = at clock wall in
+        let a = answerOf kind number message list in
+        (λ R e. let r = step-round W now a (length out) R e in (r .1, whole-answered o ns rows n W s f now a (r .0)), cells-written o ns rows n W s f now a out)
+    whole-call (write tag kind word) = tt
+    whole-call stop = tt
+    whole-call lookState = tt
+    whole-call lookStats = tt
+    whole-call lookCounts = tt
+    whole-call (lookGroups out) = tt
+    whole-call (lookTable out) = tt
+    whole-call (lookPanel out) = tt
+    whole-call (lookTag tag) = tt
+
+-- ---- creation
+
+-- no tag of a fresh table is in grace
+fresh-grace : (m k : ℕ) → getD (map isGraced (replicate m freshTag)) k false ≡ false
+fresh-grace zero k = refl
+fresh-grace (suc m) zero = refl
+fresh-grace (suc m) (suc k) = fresh-grace m k
+
+both : (a b : Bool) → (a && b) ≡ true → (a ≡ true) × (b ≡ true)
+both true true e = (refl, refl)
+both true false e = absurd (true≢false (sym e))
+both false b e = absurd (true≢false (sym e))
+
+-- Check 14: the groups configured
+groups-good : (s : Setup) → creationCheck s ≡ 0 → configuredOk (s .groups) ≡ true
+unfolding creationCheck
+groups-good s e = go (settingsOk (length (s .ends)) (s .settings)) (configuredOk (s .groups)) refl (first-zero (optionsCheck (s .options)) _ (first-zero (directoryCheck maxNames maxNameLength (s .names) (s .ends)) _ e .1) .1)
+  where
+    go : (b c : Bool) → configuredOk (s .groups) ≡ c → _≡_ {A = ℕ} (cond (b && c) 0 14) 0 → configuredOk (s .groups) ≡ true
+    go true true p e = p
+    go true false p e = absurd (omega arith)
+    go false c p e = absurd (omega arith)
+
+numbers-below : (rs : List (List ℕ)) → every groupOk rs ≡ true → Below maxGroups (numbersOf (map configuredFrom rs))
+unfolding every groupOk configuredFrom
+numbers-below [] e = tt
+numbers-below (ws ∷ rs) e =
+    let b = both (groupOk ws) (every groupOk rs) e in
+    let h : getD ws 0 0 < maxGroups = ltb-true (getD ws 0 0) maxGroups (both (ltb (getD ws 0 0) maxGroups) (rateOk (getD ws 1 0)) (b .0) .0) in
+    (omega arith, numbers-below rs (b .1))
+
+-- numbers over the first places of a list
+over-all : (old xs : List ℕ) (m : ℕ) → length xs ≡ m → m ≤ length old → take m (over old xs) ≡ xs
+unfolding over
+over-all old xs m e h = rw (← e) (go old xs (omega arith))
+  where
+    go : (old xs : List ℕ) → length xs ≤ length old → take (length xs) (over old xs) ≡ xs
+    go old [] h = refl
+    go [] (x ∷ xs) h = absurd (omega arith)
+    go (o ∷ old) (x ∷ xs) h = ap (λ (l : List ℕ). x ∷ l) (go old xs (omega arith))
+
+-- one for each tag
+each-long : (f : ℕ → ℕ) (m : ℕ) → length (eachTag f m) ≡ m
+each-long f m = length-map (upTo m) (λ (tag : ℕ). f tag % 65536) ∙ length-upTo m
+
+-- all groups that creation is given are kept, and their numbers are 0 to 15
+module _ (s : Setup) (e : creationCheck s ≡ 0) where
+  good-groups : (length (s .groups) / 16 ≤ maxGroups) × (every groupOk (recordsIn 2 (s .groups)) ≡ true)
+  unfolding configuredOk
+  good-groups =
+      let b = both (leb (length (s .groups) / 16) maxGroups) (every groupOk (recordsIn 2 (s .groups))) (both (eqb (length (s .groups)) (16 * (length (s .groups) / 16))) _ (groups-good s e) .1) in
+      (leb-true (length (s .groups) / 16) maxGroups (b .0), b .1)
+
+  pub all-configured : freshWorker s .board .configured ≡ givenGroups (s .groups)
+  unfolding freshBoard
+  all-configured = take-all configuredRoom (givenGroups (s .groups)) (omega (arith, length-given (s .groups), good-groups .0))
+
+  -- so are all sort keys and words
+  setup-whole : WholeSetup s (freshWorker s)
+  unfolding freshBoard
+  setup-whole =
+      let ns = namesOf (s .names) (s .ends) in
+      let long : length ns ≡ length (s .ends) = length-names (s .names) (s .ends) in
+      let few : length (s .ends) ≤ length noNumbers = omega (arith, names-few s e, length-replicate {A = ℕ} 128 0) in
+      record {
+        rows = sound-fresh s e .few;
+        keys-all = over-all noNumbers (keysOf ns) (length (s .ends)) (each-long (keyOf ns) (length ns) ∙ long) few;
+        words-all = over-all noNumbers (wordsOf ns) (length (s .ends)) (each-long (wordCode ns) (length ns) ∙ long) few;
+        groups-all = all-configured;
+      }
+
+  configured-below : Below maxGroups (numbersOf (freshWorker s .board .configured))
+  unfolding givenGroups
+  configured-below = rw all-configured (numbers-below (recordsIn 2 (s .groups)) (good-groups .1))
+
+  fresh-fits : (n : ℕ) → listRoom ≤ n → Fits tagRoom n (freshWorker s .board)
+  unfolding freshBoard tagTaken
+  fresh-fits n more =
+      let words = freshWords (s .names) (s .ends) in
+      let tags = tableTaken false (s .settings) words (replicate tagRoom freshTag) in
+      let same : map isGraced tags ≡ map isGraced (replicate tagRoom freshTag) = each-kept isGraced (takenAt false (s .settings) words) (λ i x. refl) 0 (replicate tagRoom freshTag) in
+      let long : length tags ≡ tagRoom = sym (length-map tags isGraced) ∙ ap length same ∙ length-map (replicate tagRoom freshTag) isGraced ∙ length-replicate tagRoom freshTag in
+      record {
+        table-fits = record {
+          graced = record {
+            once = λ k. ap (λ (b : Bool). cond b 1 0) (sym (sym (map-at isGraced tags k freshTag) ∙ ap (λ (l : List Bool). getD l k false) same ∙ fresh-grace tagRoom k));
+            enough = omega (arith, long);
+          };
+          long = long;
+          numbered = numbered-taken (length (s .ends)) (s .settings) (settings-good s e) false words (replicate tagRoom freshTag);
+        };
+        groups-fit = record { numbers = record { once = λ k. omega arith; below = tt }; enough = omega arith };
+        named = configured-below;
+        asked-few = omega arith;
+        queue-few = omega arith;
+        rooms = record { tags-fit = omega arith; writes-fit = omega arith; queue-fits = omega arith; more = more; cells-fit = omega arith };
+      }
+
+-- ---- lists of calls
+
+-- What holds of each call on an engine that is sound and fits holds of each call of a list, from a fresh engine on.
+pub each-fit : (s : Setup) → creationCheck s ≡ 0 → (n : ℕ) → listRoom ≤ n → (Q : Moment → Type 0)
+    → ((c : Call) (W : Worker) → Sound (s .options) (namesOf (s .names) (s .ends)) W → Fits tagRoom n (W .board) → Q (moment c W))
+    → (cs : List Call) → Each (atEach after moment cs (freshWorker s)) Q
+unfolding Each atEach
+each-fit s e n more Q q cs = go cs (freshWorker s) (sound-fresh s e) (fresh-fits s e n more)
+  where
+    ns : List (List ℕ)
+    ns = namesOf (s .names) (s .ends)
+
+    go : (cs : List Call) (W : Worker) → Sound (s .options) ns W → Fits tagRoom n (W .board) → Each (atEach after moment cs W) Q
+    go [] W v f = tt
+    go (c ∷ cs) W v f = (q c W v f, go cs (after c W) (sound-after (s .options) ns c W v) (same-call (s .options) ns tagRoom n W v f c .fits))
+
+-- Every list of calls is answered the same with more room.
+pub never-cut : NeverCut
+unfolding NeverCut atEach
+never-cut s e cs n more = let r = go cs (freshWorker s) (sound-fresh s e) (fresh-fits s e n more) in record { same = r .0; kept = r .1 }
+  where
+    ns : List (List ℕ)
+    ns = namesOf (s .names) (s .ends)
+
+    go : (cs : List Call) (W : Worker) → Sound (s .options) ns W → Fits tagRoom n (W .board)
+        → (answers after answer cs (roomed n W) ≡ answers after answer cs W) × (states after cs (roomed n W) ≡ map (roomed n) (states after cs W))
+    go [] W v f = (refl, refl)
+    go (c ∷ cs) W v f =
+        let x = same-call (s .options) ns tagRoom n W v f c in
+        let r = go cs (after c W) (sound-after (s .options) ns c W v) (x .fits) in (
+          rw (x .answer-same, x .after-same) (ap (λ (l : List Said). answer c W ∷ l) (r .0)),
+          rw (x .after-same) (ap (λ (l : List Worker). roomed n (after c W) ∷ l) (r .1)),
+        )
+
+-- Creation keeps all that it is given.
+pub setups-whole : SetupsWhole
+unfolding SetupsWhole
+setups-whole s e = setup-whole s e
+
+-- The lists of every round are whole, and so are the lists that steps leave.
+pub steps-whole : StepsWhole
+unfolding StepsWhole
+steps-whole s e cs = each-fit s e listRoom (omega arith) WholeStep (λ c W v f. whole-call (s .options) (namesOf (s .names) (s .ends)) tagRoom listRoom W v f c) cs

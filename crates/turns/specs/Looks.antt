@@ -1,0 +1,57 @@
+-- Looks are never cut. A look that is not refused gives all that there is: where the definitions of `capi` say what is told of more than the lent list holds, no engine comes
+-- to that.
+use mathlib.Core.Path.{_≡_}
+use mathlib.Core.List.{List, _∷_, _++_, map}
+use Prim.Native.Nat.{ℕ, _≤_, _/_}
+use lib.ListN.{length, drop}
+use Rattle.panel.specs.Panel.{tierIn}
+use Rattle.lent.specs.Lent.{records, wroteCells}
+use Rattle.statistics.specs.Stats.{groupsOf}
+use Rattle.histories.specs.Events.{Each}
+use Rattle.histories.specs.Histories.{atEach}
+use Rattle.board.specs.Board.{factsOf, rowCells}
+use Rattle.worker.specs.Worker.{Worker}
+use Rattle.capi.specs.Creation.{Setup, creationCheck, freshWorker}
+use Rattle.capi.specs.Looks.{groupCells}
+use Rattle.turns.specs.Calls.{Call, tier, load, steps, write, stop, lookState, lookStats, lookCounts, lookGroups, lookTable, lookPanel, lookTag, Answer, listIs, answer, after}
+use Rattle.turns.specs.Demand.{Moment, moment}
+
+-- so many, and what is left in the lent list
+abbrev pub all : ℕ → List ℕ → Answer
+all n left = listIs (record { code = 0; count = n }) left
+
+-- Rule 10: the groups, and the tags in table order
+abbrev pub groupsIn : Worker → List ℕ
+groupsIn W = groupsOf (factsOf (W .board))
+
+abbrev pub orderIn : Worker → List ℕ
+orderIn W = W .board .table .order
+
+-- Rule 11: a count byte n, then n tag bytes, then n tier bytes
+abbrev pub panelIn : Worker → List ℕ
+panelIn W = length (orderIn W) ∷ (orderIn W ++ map (tierIn (W .board .table .tags)) (orderIn W))
+
+-- Of a call on an engine. The group statistics: at most 16 groups, and where 16 places are lent all are told. The table: at most 120 tags, and where as many places are lent as
+-- there are rows all are told. The panel list: at most 241 bytes, and where so many are lent all are written.
+unfoldable pub WholeLook : Moment → Type 0
+WholeLook m = go (m .call)
+  where
+    W : Worker
+    W = m .engine
+
+    go : Call → Type 0
+    go (tier clock tag to) = Unit {0}
+    go (load clock list) = Unit {0}
+    go (steps clock wall kind number message list out) = Unit {0}
+    go (write tag kind word) = Unit {0}
+    go stop = Unit {0}
+    go lookState = Unit {0}
+    go lookStats = Unit {0}
+    go lookCounts = Unit {0}
+    go (lookGroups out) = (length (groupsIn W) ≤ 16) × (16 ≤ length out / 40 → answer (lookGroups out) W ≡ all (length (groupsIn W)) (wroteCells out (groupCells W)))
+    go (lookTable out) = (length (orderIn W) ≤ 120) × (120 ≤ length out / 16 → answer (lookTable out) W ≡ all (length (orderIn W)) (wroteCells out (records (rowCells (W .board)) (orderIn W))))
+    go (lookPanel out) = (length (panelIn W) ≤ 241) × (241 ≤ length out → answer (lookPanel out) W ≡ all (length (panelIn W)) (panelIn W ++ drop (length (panelIn W)) out))
+    go (lookTag tag) = Unit {0}
+
+unfoldable pub LooksWhole : Type 0
+LooksWhole = (s : Setup) → creationCheck s ≡ 0 → (cs : List Call) → Each (atEach after moment cs (freshWorker s)) WholeLook
