@@ -44,12 +44,12 @@ same-length-2 c = search needs
 
 returns-3 : tie.Need-returns-3
 returns-3 c =
-    let a = c .before .before .before .before .before .before .before .before .before .before .before .before .before .before .before .before .args in
+    let a = c .before .before .before .before .before .before .before .before .before .before .before .before .before .before .before .before .before .args in
     let bs = now (a .mem) in
-    let e = c .before .before .before .before .before .before .before .before .before .before .before .head-of in
+    let e = c .before .before .before .before .before .before .before .before .before .before .before .before .head-of in
     let clocked : Worker → Worker = λ w. worker (withClock (w .head) (a .clock)) (w .board) in
-    done-call bs _ _ _ (c .before .before .before .before .before .before .before .before .before .before .before .before .before .if1 .left)
-    (sym (c .before .before .before .before .before .before .before .before .if2 .left) ∙ c .before .before .before .before .before .before .before .before .before .load-check .ensures ∙ ap (λ (x : Engine). loadCheck (worker x (workerIn bs .board)) (a .clock) (now (a .list))) (e .ensures))
+    done-call bs _ _ _ (c .before .before .before .before .before .before .before .before .before .before .before .before .before .before .if1 .left)
+    (sym (c .before .before .before .before .before .before .before .before .before .if2 .left) ∙ c .before .before .before .before .before .before .before .before .before .before .load-check .ensures ∙ ap (λ (x : Engine). loadCheck (worker x (workerIn bs .board)) (a .clock) (now (a .list))) (e .ensures))
     (c .before .before .put-clock .ensures
     ∙ ap clocked (c .before .before .before .before .before .before .load-panel .ensures)
     ∙ ap (λ (x : Engine). worker (withClock (workerIn bs .head) (a .clock)) (withTable (workerIn bs .board) (loadedList (workerIn bs .board .table) (now (a .list)) (x .options .grace) (a .clock)))) (e .ensures))

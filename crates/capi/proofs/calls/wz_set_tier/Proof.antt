@@ -36,16 +36,16 @@ returns-2 c =
 
 cast-set-tier : tie.Need-cast-set-tier
 cast-set-tier c =
-    let a = c .before .before .before .before .before .before .before .args in
-    let e = c .before .before .before .head-of in
-    let p = tier-passed (worker (e .result) (workerIn (now (a .mem)) .board)) (a .clock) (a .tag) (a .tier) (sym (c .before .before .tier-check .ensures _) ∙ c .before .if2 .left) in
+    let a = c .before .before .before .before .before .before .before .before .args in
+    let e = c .before .before .before .before .head-of in
+    let p = tier-passed (worker (e .result) (workerIn (now (a .mem)) .board)) (a .clock) (a .tag) (a .tier) (sym (c .before .before .before .tier-check .ensures _) ∙ c .before .before .if2 .left) in
     search (needs, p .0)
 
 cast-set-tier-2 : tie.Need-cast-set-tier-2
 cast-set-tier-2 c =
-    let a = c .before .before .before .before .before .before .before .args in
-    let e = c .before .before .before .head-of in
-    let p = tier-passed (worker (e .result) (workerIn (now (a .mem)) .board)) (a .clock) (a .tag) (a .tier) (sym (c .before .before .tier-check .ensures _) ∙ c .before .if2 .left) in
+    let a = c .before .before .before .before .before .before .before .before .args in
+    let e = c .before .before .before .before .head-of in
+    let p = tier-passed (worker (e .result) (workerIn (now (a .mem)) .board)) (a .clock) (a .tag) (a .tier) (sym (c .before .before .before .tier-check .ensures _) ∙ c .before .before .if2 .left) in
     search (needs, p .1)
 
 set-tier-requires : tie.Need-set-tier-requires
@@ -59,12 +59,12 @@ same-length-2 c = search needs
 
 returns-3 : tie.Need-returns-3
 returns-3 c =
-    let a = c .before .before .before .before .before .before .before .before .before .before .before .before .before .before .args in
+    let a = c .before .before .before .before .before .before .before .before .before .before .before .before .before .before .before .args in
     let bs = now (a .mem) in
-    let e = c .before .before .before .before .before .before .before .before .before .before .head-of in
+    let e = c .before .before .before .before .before .before .before .before .before .before .before .head-of in
     let clocked : Worker → Worker = λ w. worker (withClock (w .head) (a .clock)) (w .board) in
-    done-call bs _ _ _ (c .before .before .before .before .before .before .before .before .before .before .before .before .if1 .left)
-    (sym (c .before .before .before .before .before .before .before .before .if2 .left) ∙ c .before .before .before .before .before .before .before .before .before .tier-check .ensures (workerIn bs .board) ∙ ap (λ (x : Engine). tierCheck (worker x (workerIn bs .board)) (a .clock) (a .tag) (a .tier)) (e .ensures))
+    done-call bs _ _ _ (c .before .before .before .before .before .before .before .before .before .before .before .before .before .if1 .left)
+    (sym (c .before .before .before .before .before .before .before .before .before .if2 .left) ∙ c .before .before .before .before .before .before .before .before .before .before .tier-check .ensures (workerIn bs .board) ∙ ap (λ (x : Engine). tierCheck (worker x (workerIn bs .board)) (a .clock) (a .tag) (a .tier)) (e .ensures))
     (c .before .before .put-clock .ensures
     ∙ ap clocked (c .before .before .before .before .before .before .set-tier .ensures)
     ∙ ap (λ (x : Engine). worker (withClock (workerIn bs .head) (a .clock)) (withTable (workerIn bs .board) (setTier (workerIn bs .board .table) (a .tag) (a .tier) (x .options .grace) (a .clock)))) (e .ensures))
