@@ -6,12 +6,6 @@
 #   CAPI    an archive to time instead of the one that `rt staticlib capi` proves and writes
 set -eu
 here=$(cd "$(dirname "$0")" && pwd)
-top=$(dirname "$here")
-folder=${1:-$top/../shared/docs/src}
-archive=${CAPI:-}
-if [ -z "$archive" ]; then
-    (cd "$top" && rt staticlib capi)
-    archive=$top/target/staticlib/libcapi.a
-fi
-program=$(CAPI=$archive "$here/build.sh" "$folder")
+archive=${CAPI:-$("$here/archive.sh" capi)}
+program=$(CAPI=$archive "$here/build.sh" "${1:-}")
 exec "$program" bench "${2:-3000}"

@@ -6,8 +6,7 @@
 # Runs document 01's cases, replays every finding and compares its trace, then `batch` over all profiles.
 set -eu
 here=$(cd "$(dirname "$0")" && pwd)
-top=$(dirname "$here")
-oracle=$("$here/build.sh" "${1:-$top/../shared/docs/src}")
+oracle=$("$here/build.sh" "${1:-}")
 count=${2:-1000}
 tmp=$(mktemp -d)
 trap 'rm -rf "$tmp"' EXIT

@@ -9,17 +9,12 @@
 #   CAPI    an archive to compare instead of the one that `rt staticlib capi` proves and writes
 set -eu
 here=$(cd "$(dirname "$0")" && pwd)
-top=$(dirname "$here")
-folder=${1:-$top/../shared/docs/src}
+folder=${1:-}
 first=${2:-1}
 count=${3:-4000}
 n=${4:-80}
 [ $# -gt 4 ] && shift 4 || set --
-archive=${CAPI:-}
-if [ -z "$archive" ]; then
-    (cd "$top" && rt staticlib capi)
-    archive=$top/target/staticlib/libcapi.a
-fi
+archive=${CAPI:-$("$here/archive.sh" capi)}
 program=$(CAPI=$archive "$here/build.sh" "$folder")
 tmp=$(mktemp -d)
 trap 'rm -rf "$tmp"' EXIT

@@ -7,7 +7,7 @@
 set -eu
 here=$(cd "$(dirname "$0")" && pwd)
 top=$(dirname "$here")
-oracle=$("$here/build.sh" "${1:-$top/../shared/docs/src}")
+oracle=$("$here/build.sh" "${1:-}")
 program=${LISTER:-}
 if [ -z "$program" ]; then
     (cd "$top" && rt check lister)

@@ -8,14 +8,9 @@
 set -eu
 here=$(cd "$(dirname "$0")" && pwd)
 top=$(dirname "$here")
-folder=${1:-$top/../shared/docs/src}
 to=${TO:-$top/crates/replay}
-archive=${CAPI:-}
-if [ -z "$archive" ]; then
-    (cd "$top" && rt staticlib capi)
-    archive=$top/target/staticlib/libcapi.a
-fi
-program=$(CAPI=$archive "$here/build.sh" "$folder")
+archive=${CAPI:-$("$here/archive.sh" capi)}
+program=$(CAPI=$archive "$here/build.sh" "${1:-}")
 tmp=$(mktemp -d)
 trap 'rm -rf "$tmp"' EXIT
 

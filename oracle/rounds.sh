@@ -6,12 +6,6 @@
 #   LEAVES  an archive to time instead of the one that `rt staticlib leaves` proves and writes
 set -eu
 here=$(cd "$(dirname "$0")" && pwd)
-top=$(dirname "$here")
-folder=${1:-$top/../shared/docs/src}
-archive=${LEAVES:-}
-if [ -z "$archive" ]; then
-    (cd "$top" && rt staticlib leaves)
-    archive=$top/target/staticlib/libleaves.a
-fi
-program=$(LEAVES=$archive "$here/build.sh" "$folder")
+archive=${LEAVES:-$("$here/archive.sh" leaves)}
+program=$(LEAVES=$archive "$here/build.sh" "${1:-}")
 exec "$program" rounds "${2:-120}" "${3:-20000}"

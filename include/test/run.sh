@@ -12,11 +12,7 @@ top=$(cd "$here/../.." && pwd)
 out=${OUT:-$top/target/include}
 seed=${1:-1}
 count=${2:-1000000}
-archive=${CAPI:-}
-if [ -z "$archive" ]; then
-    (cd "$top" && rt staticlib capi)
-    archive=$top/target/staticlib/libcapi.a
-fi
+archive=${CAPI:-$("$top/oracle/archive.sh" capi)}
 mkdir -p "$out"
 strict='-Wall -Wextra -pedantic -Werror -O1 -g'
 cc -std=c99 $strict -o "$out/calls_c" "$here/calls.c" "$archive"
