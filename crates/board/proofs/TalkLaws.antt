@@ -14,7 +14,7 @@ use Rattle.table.specs.Table.{tableIn}
 use Rattle.table.specs.declared.tag.Tag.{Tag}
 use Rattle.lent.specs.Lent.{overBytes}
 use Rattle.rounds.specs.Room.{fitted}
-use Rattle.readings.specs.Results.{resultCount}
+use Rattle.results.specs.Results.{resultCount}
 use Rattle.descriptions.specs.Descriptions.{askedTags, unwanted}
 use Rattle.writes.specs.Queue.{queueIn, queueRoom, writeTags}
 use Rattle.writes.specs.declared.queue.Write.{Write}

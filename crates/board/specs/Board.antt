@@ -19,7 +19,8 @@ use Rattle.rounds.specs.Round.{Polling, Round, round, withTags}
 use Rattle.rounds.specs.declared.tick.Options.{Options}
 use Rattle.rounds.specs.declared.round.CycleTags.{CycleTags}
 use Rattle.rounds.specs.declared.tick.Cycle.{Cycle}
-use Rattle.readings.specs.Results.{applyAll, inTagOrder, resultCount}
+use Rattle.results.specs.Results.{resultCount}
+use Rattle.readings.specs.Listed.{applyAll, inTagOrder}
 use Rattle.readings.specs.Stale.{tagStale, staledTags}
 use Rattle.descriptions.specs.Descriptions.{askedTags, unwanted}
 use Rattle.statistics.specs.Stats.{Facts}

@@ -69,7 +69,7 @@ pub fn apply(
     let asked = copied(&board[1280..1536]);
     let mut sent = [0u8; 256];
     let mut changes = [0u8; 256];
-    readings::results::apply(
+    readings::listed::apply(
         &mut board[7424..38144],
         &mut sent,
         &mut changes,

@@ -13,7 +13,7 @@ use borrow.Author.Tests.{eq-eqb, ne-eqb, leb-false, ltb-false, eqb-false}
 use Rattle.names.specs.Directory.{directoryCheck, maxNames, maxNameLength}
 use Rattle.names.proofs.DirectoryLaws.{checked}
 use Rattle.values.specs.declared.value.Value.{Value}
-use Rattle.readings.specs.Results.{valueOk}
+use Rattle.results.specs.Results.{valueOk}
 use Rattle.engine.specs.Link.{isState}
 use Rattle.engine.specs.declared.Engine.{Engine}
 use Rattle.engine.specs.declared.link.State.the-variants.{Connected}

@@ -8,7 +8,7 @@ use lib.Ieee.{Float, lt}
 use lib.ListN.{length}
 use Rattle.ieee.specs.Times.{clockOk}
 use Rattle.values.specs.declared.value.Value.{Value}
-use Rattle.readings.specs.Results.{valueOk}
+use Rattle.results.specs.Results.{valueOk}
 use Rattle.tiers.specs.Tiers.{setTier}
 use Rattle.panel.specs.Panel.{panelCheck, loadedList}
 use Rattle.writes.specs.Queue.{queuedWith}

@@ -10,7 +10,7 @@ use engine::Engine;
 use engine::link::State;
 use engine::link::is_state;
 use ieee::times::is_clock;
-use readings::results::is_finite_value;
+use results::check::is_finite_value;
 use values::value::Value;
 
 fn clock_check(e: Engine, clock: f64) -> u32

@@ -4,7 +4,7 @@ use super::given::put_value;
 use super::print::either;
 use super::print::text;
 use memory::cells::put_cell;
-use readings::results::check_results;
+use results::check::check_results;
 use settings::configured::check_configured;
 use settings::setting::check_settings;
 use values::value::Value;

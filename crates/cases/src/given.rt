@@ -73,7 +73,7 @@ pub fn apply_first(table: &mut [u8], results: &[u8], start: f64, t: i64, polled:
     let mut sent = [0u8; 4];
     let mut changes = [0u8; 4];
     push(&mut tags, 0);
-    readings::results::apply(
+    readings::listed::apply(
         table,
         &mut sent,
         &mut changes,

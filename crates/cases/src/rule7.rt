@@ -14,7 +14,7 @@ use super::print::sent;
 use super::print::tags;
 use super::print::text;
 use memory::tags::push;
-use readings::results::apply;
+use readings::listed::apply;
 use readings::stale::mark_stale;
 use table::fields::cached_of;
 use table::fields::published_of;

@@ -26,8 +26,9 @@ use Rattle.rounds.specs.Round.{Polling, Rooms, round}
 use Rattle.rounds.specs.declared.tick.Options.{Options}
 use Rattle.rounds.proofs.OnceLaws.{count-take, round-once}
 use Rattle.tiers.specs.Listed.{Listed}
-use Rattle.readings.specs.Apply.{tagApplied, isSent, appliedAt, sentAt}
-use Rattle.readings.specs.Results.{Applying, resultCount, resultIn, applyNext, applyFrom, applyAll, inTagOrder, AppliedAll}
+use Rattle.apply.specs.Apply.{tagApplied, isSent, appliedAt, sentAt}
+use Rattle.results.specs.Results.{resultCount, resultIn}
+use Rattle.readings.specs.Listed.{Applying, applyNext, applyFrom, applyAll, inTagOrder, AppliedAll}
 use Rattle.readings.specs.Order.{placeIn, ownResult, applyTurn, applyTurns, applyInOrder}
 
 -- ---- which tags a list names

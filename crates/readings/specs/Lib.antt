@@ -1,6 +1,4 @@
--- Rule 7: readings applied, and stale.
-pub mod Apply
-pub mod Steps
+-- Rule 7: the readings of a list of tags, and stale.
 pub mod Stale
-pub mod Results
+pub mod Listed
 pub mod Order

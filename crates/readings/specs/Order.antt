@@ -10,8 +10,9 @@ use Rattle.values.specs.declared.entry.TagResult.{TagResult}
 use Rattle.memory.specs.Lists.{member}
 use Rattle.table.specs.declared.tag.Tag.{Tag}
 use Rattle.rounds.specs.Added.{byRank}
-use Rattle.readings.specs.Apply.{appliedAt, sentAt}
-use Rattle.readings.specs.Results.{Applying, resultCount, resultIn}
+use Rattle.apply.specs.Apply.{appliedAt, sentAt}
+use Rattle.results.specs.Results.{resultCount, resultIn}
+use Rattle.readings.specs.Listed.{Applying}
 
 -- the first place of the tag k in a list, or the list's length
 unfoldable pub placeIn : ℕ → List ℕ → ℕ

@@ -22,8 +22,9 @@ use Rattle.table.specs.declared.tag.Tag.{Tag}
 use Rattle.values.specs.declared.entry.Entry.{Entry}
 use Rattle.values.specs.declared.entry.TagResult.{TagResult}
 use Rattle.tiers.specs.Listed.{Listed}
-use Rattle.readings.specs.Apply.{tagRead, tagApplied, appliedAt, sentAt}
-use Rattle.readings.specs.Results.{Applying, resultCount, resultIn, applyNext, applyFrom, applyAll}
+use Rattle.apply.specs.Apply.{tagRead, tagApplied, appliedAt, sentAt}
+use Rattle.results.specs.Results.{resultCount, resultIn}
+use Rattle.readings.specs.Listed.{Applying, applyNext, applyFrom, applyAll}
 use Rattle.readings.specs.Stale.{tagStale, isStaled}
 use Rattle.descriptions.specs.Descriptions.{isAsked, askedTags, unwanted, knownFrom, foundIn, foundCount, learnt, learntNone}
 use Rattle.settings.specs.Settings.{settingsOk, maxGroups}

@@ -13,8 +13,9 @@ use Rattle.table.specs.Tag.{freshTag}
 use Rattle.table.specs.Table.{withDescription}
 use Rattle.table.specs.declared.tag.Description.{Description}
 use Rattle.table.specs.declared.tag.Tag.{Tag}
-use Rattle.readings.specs.Apply.{tagRead, tagApplied, appliedAt}
-use Rattle.readings.specs.Results.{Applying, resultIn, applyNext, applyFrom}
+use Rattle.apply.specs.Apply.{tagRead, tagApplied, appliedAt}
+use Rattle.results.specs.Results.{resultIn}
+use Rattle.readings.specs.Listed.{Applying, applyNext, applyFrom}
 use Rattle.descriptions.specs.Descriptions.{knownFrom}
 use Rattle.versions.specs.Versions.{tagTaken, takenAt, eachAt, tableTaken, versionTable, isChanged, takesSettings}
 use Rattle.versions.specs.declared.version.Version.{Version}

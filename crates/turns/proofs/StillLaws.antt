@@ -10,7 +10,7 @@ use lib.Ieee.{Float, binary64, round as rounded, le}
 use lib.IntN.{ℤ}
 use lib.ListN.{length, take}
 use Rattle.readings.specs.Stale.{tagStale}
-use Rattle.readings.specs.Results.{resultCount}
+use Rattle.results.specs.Results.{resultCount}
 use Rattle.descriptions.specs.Descriptions.{unwanted, foundIn, foundCount, learnt, learntNone}
 use Rattle.table.specs.declared.tag.Tag.{Tag}
 use Rattle.table.specs.declared.tag.Description.the-variants.{Nothing as NoDescription}

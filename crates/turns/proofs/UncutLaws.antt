@@ -27,7 +27,7 @@ use Rattle.settings.specs.Records.{recordsIn, every}
 use Rattle.settings.specs.Settings.{settingsOk, maxGroups, rateOk}
 use Rattle.settings.specs.Configured.{configuredFrom, givenGroups, groupOk, configuredOk}
 use Rattle.settings.proofs.GroupLaws.{length-given}
-use Rattle.readings.specs.Results.{valueOk}
+use Rattle.results.specs.Results.{valueOk}
 use Rattle.versions.specs.Versions.{tagTaken, takenAt, tableTaken}
 use Rattle.rounds.specs.Options.{optionsCheck}
 use Rattle.rounds.specs.Round.{Round}

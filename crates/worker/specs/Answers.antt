@@ -8,7 +8,7 @@ use lib.Ieee.{Float, lt}
 use lib.ListN.{length, take}
 use Rattle.ieee.specs.Times.{clockOk}
 use Rattle.values.specs.declared.value.Value.the-variants.{Null}
-use Rattle.readings.specs.Results.{resultCount, resultsOk}
+use Rattle.results.specs.Results.{resultCount, resultsOk}
 use Rattle.settings.specs.Settings.{settingsOk}
 use Rattle.versions.specs.Versions.{isChanged, isReloaded, versionTable}
 use Rattle.versions.specs.declared.version.Version.{Version as Number}

@@ -124,7 +124,7 @@ fn contents(board: &[u8], e: Engine, a: Answer, list: &[u8]) -> u64
         return 14;
     }
     if a.kind == Answer::RESULTS {
-        if readings::results::check_results(list, asked_count(board)) {
+        if results::check::check_results(list, asked_count(board)) {
             return 0;
         }
         return 42;

@@ -16,7 +16,7 @@ use Rattle.ranks.specs.Ranks.{over, wordsOf}
 use Rattle.ranks.proofs.WordLaws.{word-differs}
 use Rattle.rounds.specs.Room.{fitted}
 use Rattle.rounds.proofs.OnceLaws.{count-take}
-use Rattle.readings.specs.Results.{AppliedAll}
+use Rattle.readings.specs.Listed.{AppliedAll}
 use Rattle.readings.specs.Order.{applyInOrder}
 use Rattle.readings.proofs.OrderLaws.{applied-in-order}
 use Rattle.writes.specs.ReadBack.{readBackTags}

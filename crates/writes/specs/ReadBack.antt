@@ -8,7 +8,7 @@ use Rattle.values.specs.Entry.{isGood, qualityOf}
 use Rattle.values.specs.declared.value.Value.{Value}
 use Rattle.values.specs.declared.value.Value.the-variants.{Null}
 use Rattle.values.specs.declared.entry.TagResult.{TagResult}
-use Rattle.readings.specs.Results.{resultIn}
+use Rattle.results.specs.Results.{resultIn}
 
 -- Rule 8: a write is followed by reading the tag and, for a bit, its word; a word outside the directory isn't read. `words` has for each tag 0 where it is
 -- no bit, 1 for a bit whose word the directory lacks, and otherwise the word's tag and 2.

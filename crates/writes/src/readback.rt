@@ -7,7 +7,7 @@ ghost use Rattle.writes.specs.ReadBack.{readBackTags, readBackValue, rea
 use memory::halves::half;
 use memory::tags::clear;
 use memory::tags::push;
-use readings::results::result_at;
+use results::result::result_at;
 use values::entry::TagResult;
 use values::entry::is_good;
 use values::entry::quality_of;

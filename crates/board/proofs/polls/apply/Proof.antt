@@ -11,7 +11,7 @@ use lib.ListN.{length, replicate, length-replicate}
 use Rattle.memory.specs.Lists.{listIn, room}
 use Rattle.table.specs.Table.{tableIn}
 use Rattle.rounds.specs.Room.{fitted}
-use Rattle.readings.specs.Results.{Applying, applyAll, inTagOrder}
+use Rattle.readings.specs.Listed.{Applying, applyAll, inTagOrder}
 use Rattle.board.specs.Regions.{regionsIn, part}
 use Rattle.board.specs.Board.{boardIn, boardOf, appliedTo}
 use Rattle.board.proofs.PollLaws.{part-long, put-long, same-room, changing}

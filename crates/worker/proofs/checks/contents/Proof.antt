@@ -6,7 +6,7 @@ use lib.Dec.{eqb}
 use lib.ListN.{length}
 use denote.Ref.{now}
 use borrow.Author.Tests.{eq-eqb, ne-eqb}
-use Rattle.readings.specs.Results.{resultsOk}
+use Rattle.results.specs.Results.{resultsOk}
 use Rattle.settings.specs.Settings.{settingsOk}
 use Rattle.board.specs.Board.{boardIn}
 use Rattle.worker.specs.Answers.{either, contents}

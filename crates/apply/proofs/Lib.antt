@@ -1,0 +1,3 @@
+-- Laws of one reading applied.
+pub mod ApplyLaws
+pub mod RepeatLaws

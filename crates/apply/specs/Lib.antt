@@ -1,0 +1,3 @@
+-- Rule 7: one reading applied.
+pub mod Apply
+pub mod Steps

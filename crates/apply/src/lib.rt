@@ -1,0 +1,2 @@
+// Rule 7: one reading applied to its tag.
+pub mod reading;

@@ -1,0 +1,51 @@
+-- Rule 7: the readings of a list of tags.
+use mathlib.Core.Path.{_≡_}
+use mathlib.Core.Bool.{Bool, cond}
+use mathlib.Core.List.{List, [], _∷_}
+use Prim.Native.Nat.{ℕ, suc, _%_}
+use lib.IntN.{ℤ}
+use lib.Ieee.{Float}
+use lib.ListN.{take}
+use Rattle.lists.specs.Keep.{keep}
+use Rattle.values.specs.declared.entry.TagResult.{TagResult}
+use Rattle.memory.specs.Lists.{listIn, room, pushed, member}
+use Rattle.table.specs.Table.{tableIn}
+use Rattle.table.specs.declared.tag.Tag.{Tag}
+use Rattle.rounds.specs.Added.{byRank}
+use Rattle.rounds.specs.Room.{fitted}
+use Rattle.results.specs.Results.{resultCount, resultIn}
+use Rattle.apply.specs.Apply.{appliedAt, sentAt}
+
+-- The table, and the tags whose readings were sent so far.
+pub record Applying : Type 0 where
+  pub tags : List Tag
+  pub sent : List ℕ
+
+abbrev pub applying : List ℕ → List ℕ → Applying
+applying table sent = record { tags = tableIn table; sent = listIn sent }
+
+-- Rule 7: one reading more. A list in memory holds tags below 65536.
+unfoldable pub applyNext : ℕ → Applying → ℕ → TagResult → Float → ℤ → Bool → Applying
+applyNext n S k r start t polled = record {
+  tags = appliedAt (S .tags) k r start t polled;
+  sent = cond (sentAt (S .tags) k r t polled) (pushed n (S .sent) (k % 65536)) (S .sent);
+}
+
+-- Rule 7: the readings of the tags of a list, the first of which is result i, in the order of the list. For a list that names no tag twice, as those of a round
+-- and of a read-back are, this with `inTagOrder` is rule 7 tag by tag, `applyInOrder` of `Order`: proved in `OrderLaws` (`tag-order`, `round-in-order`).
+unfoldable pub applyFrom : ℕ → List ℕ → Float → ℤ → Bool → ℕ → List ℕ → Applying → Applying
+applyFrom n results start t polled i [] S = S
+applyFrom n results start t polled i (k ∷ ks) S = applyFrom n results start t polled (suc i) ks (applyNext n S k (resultIn results i) start t polled)
+
+-- Rules 7 and 8: a short list of results covers only its first tags; the rest of a long one is ignored.
+abbrev pub applyAll : ℕ → List ℕ → Float → ℤ → Bool → List ℕ → List Tag → Applying
+applyAll n results start t polled tags table = applyFrom n results start t polled 0 (take (resultCount results) tags) (record { tags = table; sent = [] })
+
+-- Rule 7: the changes go out in tag order.
+abbrev pub inTagOrder : List Tag → List ℕ → List ℕ
+inTagOrder table sent = keep (λ (k : ℕ). member k sent) (byRank table)
+
+-- Rule 7: what a table and a list of changes hold after the readings of a list of tags.
+pub record AppliedAll (table sent changes tags results : List ℕ) (start : Float) (t : ℤ) (polled : Bool) (table' changes' : List ℕ) : Type 0 where
+  pub tabled : tableIn table' ≡ applyAll (room sent) results start t polled (listIn tags) (tableIn table) .tags
+  pub changed : listIn changes' ≡ fitted (room changes) (inTagOrder (tableIn table) (applyAll (room sent) results start t polled (listIn tags) (tableIn table) .sent))

@@ -1,0 +1,2 @@
+-- Laws of check 42.
+pub mod ResultLaws

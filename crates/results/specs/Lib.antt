@@ -1,0 +1,2 @@
+-- The results of a reply, and check 42.
+pub mod Results
