@@ -7,8 +7,8 @@ use lib.ListN.{length, length-replicate, replicate}
 use Rattle.ieee.specs.Round.{float}
 use Rattle.capi.specs.Creation.{Setup, creationCheck, freshWorker}
 use Rattle.capi.specs.Memory.{memorySize, workerIn}
 use Rattle.turns.specs.Contracts.{CreateMet}
-use Rattle.turns.proofs.PossibleLaws.{ref}
+use Rattle.possible.proofs.PossibleLaws.{ref}
 use Rattle.lists.specs.Keep as lists-Keep
 use Rattle.names.specs.Order as names-Order
 use Rattle.names.specs.Bits as names-Bits

@@ -48,18 +48,18 @@ use Rattle.worker.specs.Answers.{Answer, contents, stepCheck, clocked, stepped,
 use Rattle.capi.specs.Calls.{clockCheck, noTag, tierCheck, tiered, loadCheck, writeCheck, writeOf, wrote, maxWrites, answerOf}
 use Rattle.capi.specs.Calls as calls
 use Rattle.capi.specs.Creation.{Setup, creationCheck, freshWorker}
 use Rattle.turns.specs.Calls.{Call, tier, load, steps, write, stop, lookState, lookStats, lookCounts, lookGroups, lookTable, lookPanel, lookTag, Answer as Said, accepted, answer, after}
 use Rattle.turns.specs.Demand.{Moment, moment}
 use Rattle.turns.specs.Once.{answeredTo}
-use Rattle.turns.specs.Uncut.{roomed, NeverCut, WholeAt, WholeStep, StepsWhole, WholeSetup, SetupsWhole}
+use Rattle.uncut.specs.Uncut.{roomed, NeverCut, WholeAt, WholeStep, StepsWhole, WholeSetup, SetupsWhole}
 use Rattle.turns.proofs.KeepLaws.{Keeps}
 use Rattle.turns.proofs.StillLaws.{still-writing, still-handled}
 use Rattle.turns.proofs.StepLaws.{Accepted, accepted-step, step-cases}
 use Rattle.turns.proofs.SoundLaws.{Sound, sound-kept, sound-clocked}
 use Rattle.turns.proofs.CallLaws.{first-zero, tier-inside, panel-inside, names-few, settings-good, sound-fresh, sound-after}
-use Rattle.turns.proofs.FitLaws.{isGraced, numbered-taken, FitTable, numbersOf, Fits}
-use Rattle.turns.proofs.RoomLaws.{tier-roomed, fit-tier, load-roomed, whole}
-use Rattle.turns.proofs.AlikeLaws.{each-kept, fits-queue, Alike, alike-tell, alike-finished, alike-handled}
+use Rattle.uncut.proofs.FitLaws.{isGraced, numbered-taken, FitTable, numbersOf, Fits}
+use Rattle.uncut.proofs.RoomLaws.{tier-roomed, fit-tier, load-roomed, whole}
+use Rattle.uncut.proofs.AlikeLaws.{each-kept, fits-queue, Alike, alike-tell, alike-finished, alike-handled}
 
 -- ---- a step
 

@@ -39,7 +39,7 @@ use denote.Steps.{nothing}
 use denote.Triple.Entry.{onEntry, Args, Vals}
 use denote.Triple.End.{Kepts, lastsOf}
 use denote.Triple.Spec.{Spec, tripleOf, Meets, exits}
-use Rattle.turns.proofs.RunLaws.{has-result, with-emp, lent-mut, lent-shr, taken-back, good-left}
+use Rattle.possible.proofs.RunLaws.{has-result, with-emp, lent-mut, lent-shr, taken-back, good-left}
 use Rattle.capi.specs.Memory.{workerIn, Called}
 use Rattle.capi.specs.Calls.{loadCheck, loaded}
 use Rattle.capi.proofs.calls.wz_load.Met as load

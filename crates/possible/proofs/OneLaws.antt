@@ -36,7 +36,7 @@ use denote.Steps.{nothing}
 use denote.Triple.Entry.{onEntry, Args, Vals}
 use denote.Triple.End.{Kepts, Fins, lastsOf}
 use denote.Triple.Spec.{Spec, tripleOf, Meets, exits}
-use Rattle.turns.proofs.RunLaws.{has-result, with-emp, lent-mut, taken-back, good-left}
+use Rattle.possible.proofs.RunLaws.{has-result, with-emp, lent-mut, taken-back, good-left}
 
 -- `rest` is the other parameters, and Q what the contract says: of them, of the slice before, of the result, and of the slice after
 module _ (rest : List (Slot 1)) (ks : Kepts rest) (Q : (κs : Lfts 1) → Denots (typesAt rest κs) → List ℕ → ℕ → List ℕ → Type 0) where

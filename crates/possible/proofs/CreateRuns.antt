@@ -42,8 +42,8 @@ use denote.Triple.Spec.{Spec, tripleOf, Meets, exits}
 use Rattle.capi.specs.Memory.{Called}
 use Rattle.capi.specs.Creation.{Setup, creationCheck, freshWorker}
 use Rattle.capi.proofs.creation.wz_create.Met as create
-use Rattle.turns.proofs.RunLaws.{has-result, with-emp, lent-mut, taken-back, good-left}
-use Rattle.turns.proofs.BlockRuns.{held, lent-numbers}
+use Rattle.possible.proofs.RunLaws.{has-result, with-emp, lent-mut, taken-back, good-left}
+use Rattle.possible.proofs.BlockRuns.{held, lent-numbers}
 
 abbrev others : List (Slot 4)
 others = SliceRefOf {n = 4} (1 ∷ []) tt (plain {n = 4} (λ κs. u8)) (λ κs. tt) ∷ SliceRefOf {n = 4} (1 ∷ []) tt (plain {n = 4} (λ κs. u32)) (λ κs. tt)

@@ -23,12 +23,12 @@ use Rattle.board.specs.Board.{factsOf, rowCells}
 use Rattle.board.specs.Creation.{listRoom, tagRoom}
 use Rattle.worker.specs.Worker.{Worker}
 use Rattle.capi.specs.Looks.{groupCells, panelBytes}
 use Rattle.turns.specs.Calls.{Call, tier, load, steps, write, stop, lookState, lookStats, lookCounts, lookGroups, lookTable, lookPanel, lookTag, answer}
 use Rattle.turns.specs.Demand.{moment}
-use Rattle.turns.specs.Looks.{all, groupsIn, orderIn, panelIn, WholeLook, LooksWhole}
+use Rattle.uncut.specs.Looks.{all, groupsIn, orderIn, panelIn, WholeLook, LooksWhole}
 use Rattle.turns.proofs.SoundLaws.{Sound}
-use Rattle.turns.proofs.FitLaws.{numbersOf, Fits}
-use Rattle.turns.proofs.UncutLaws.{each-fit}
+use Rattle.uncut.proofs.FitLaws.{numbersOf, Fits}
+use Rattle.uncut.proofs.UncutLaws.{each-fit}
 
 -- numbers below 256 are bytes
 bytes-same : (l : List ℕ) → Below 256 l → map (λ (k : ℕ). k % 256) l ≡ l

@@ -17,13 +17,13 @@ use Rattle.lent.specs.Lent.{records}
 use Rattle.board.specs.Board.{rowCells}
 use Rattle.capi.specs.Memory.{workerIn}
 use Rattle.capi.specs.Looks.{stateLook, statsLook, countsLook, listed, leftIn, groupCells, groupCount, groupCheck, tableCount, tableCheck, panelBytes, panelCount, panelCode, panelLeft, tagLook}
 use Rattle.turns.specs.Calls.{Call, tier, load, steps, write, stop, lookState, lookStats, lookCounts, lookGroups, lookTable, lookPanel, lookTag}
 use Rattle.turns.specs.Calls.{Answer, numberIs, told, stateIs, statsAre, countsAre, listIs, tagIs}
 use Rattle.turns.specs.Contracts.{Learnt}
-use Rattle.turns.specs.Typed.{Lendable, Typed, EveryList}
-use Rattle.turns.proofs.PlainRuns.{tier-has, write-has, stop-has}
-use Rattle.turns.proofs.LoadRuns.{load-has}
-use Rattle.turns.proofs.StepRuns.{step-has}
+use Rattle.possible.specs.Typed.{Lendable, Typed, EveryList}
+use Rattle.possible.proofs.PlainRuns.{tier-has, write-has, stop-has}
+use Rattle.possible.proofs.LoadRuns.{load-has}
+use Rattle.possible.proofs.StepRuns.{step-has}
 
 -- a lendable list has room
 has-room : (n : ℕ) → n < 2 ^ 63 → Room u8 n

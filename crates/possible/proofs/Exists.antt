@@ -12,14 +12,14 @@ use prog.Model.{AllFit}
 use Rattle.ieee.specs.Round.{float}
 use Rattle.histories.specs.Events.{Each}
 use Rattle.histories.specs.Histories.{calls, Happened}
 use Rattle.turns.specs.Contracts.{Asked, Learnt}
 use Rattle.turns.specs.Demand.{History, Demand3, Claim}
-use Rattle.turns.specs.Typed.{Lendable, Typed, EveryList}
-use Rattle.turns.proofs.PossibleLaws.{every-list}
-use Rattle.turns.proofs.StepRuns.{all-fit}
+use Rattle.possible.specs.Typed.{Lendable, Typed, EveryList}
+use Rattle.possible.proofs.PossibleLaws.{every-list}
+use Rattle.possible.proofs.StepRuns.{all-fit}
 use Rattle.turns.proofs.ClaimLaws.{demand-3}
-use Rattle.turns.proofs.Fresh.{setup, headBytes, boardBytes, lent, fresh, fresh-long, created}
-use Rattle.turns.proofs.Example.{stepAt, someCalls}
+use Rattle.possible.proofs.Fresh.{setup, headBytes, boardBytes, lent, fresh, fresh-long, created}
+use Rattle.possible.proofs.Example.{stepAt, someCalls}
 
 -- zeros are bytes
 zeros-fit : (n : ℕ) → AllFit w8 (replicate n 0)

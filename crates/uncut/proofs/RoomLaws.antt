@@ -38,11 +38,11 @@ use Rattle.rounds.specs.declared.tick.Cycle.{Cycle}
 use Rattle.rounds.proofs.NameLaws.{expired-below}
 use Rattle.rounds.proofs.OnceLaws.{Whole, order-once}
 use Rattle.rounds.proofs.GracedLaws.{graced-round, round-uncut}
-use Rattle.turns.specs.Uncut.{tableRoomed, groupsRoomed}
+use Rattle.uncut.specs.Uncut.{tableRoomed, groupsRoomed}
 use Rattle.turns.proofs.TierLaws.{settingsOf, map-kept}
 use Rattle.turns.proofs.RateLaws.{tier-settings}
 use Rattle.turns.proofs.RoundLaws.{round-settings, round-long}
-use Rattle.turns.proofs.FitLaws.{pushed-same, numbered-same, FitTable, FitGroups, Noted, due-fits}
+use Rattle.uncut.proofs.FitLaws.{pushed-same, numbered-same, FitTable, FitGroups, Noted, due-fits}
 
 -- ---- tier changes
 

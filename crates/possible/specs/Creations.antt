@@ -11,10 +11,10 @@ use Rattle.histories.specs.Events.{Each}
 use Rattle.histories.specs.Histories.{calls, Happened}
 use Rattle.capi.specs.Memory.{memorySize}
 use Rattle.capi.specs.Creation.{Setup, creationCheck}
 use Rattle.turns.specs.Calls.{Call}
 use Rattle.turns.specs.Contracts.{CreateMet, Asked, Learnt}
 use Rattle.turns.specs.Demand.{History, Demand3}
-use Rattle.turns.specs.Typed.{Lendable, Typed}
+use Rattle.possible.specs.Typed.{Lendable, Typed}
 
 -- What creation is given are values of their types: lists of bytes, a list of u32 that memory can hold, and three f64. Nothing more is asked.
 pub record TypedSetup (s : Setup) : Type 0 where

@@ -9,13 +9,13 @@ use lib.ListN.{length}
 use denote.Builtin.{u8}
 use denote.Slice.{Room}
 use Rattle.capi.specs.Creation.{Setup}
 use Rattle.turns.specs.Contracts.{CreateMet}
 use Rattle.turns.specs.Demand.{Claim}
-use Rattle.turns.specs.Typed.{EveryList}
-use Rattle.turns.specs.Creations.{TypedSetup, EveryCreation, EveryEngine}
-use Rattle.turns.proofs.PossibleLaws.{ref, every-list}
-use Rattle.turns.proofs.CreateRuns.{InRange, create-has}
+use Rattle.possible.specs.Typed.{EveryList}
+use Rattle.possible.specs.Creations.{TypedSetup, EveryCreation, EveryEngine}
+use Rattle.possible.proofs.PossibleLaws.{ref, every-list}
+use Rattle.possible.proofs.CreateRuns.{InRange, create-has}
 use Rattle.turns.proofs.ClaimLaws.{demand-3}
 
 -- a lendable list has room
 has-room : (n : ℕ) → n < 2 ^ 63 → Room u8 n

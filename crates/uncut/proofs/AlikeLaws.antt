@@ -52,10 +52,10 @@ use Rattle.worker.specs.Losing.{isEmpty, withoutWrites, failing, ended, backing
 use Rattle.worker.specs.Polling.{elapsed, remaining, polls, waiting, idle, tail, resume, writingOf, writing, checking, reading, roundAt, withWorked, worked, polled, poll, lastly, finished}
 use Rattle.worker.specs.Answers.{Answer, awaited, either, answers, contents, numberOf, versioned, connected, reconnecting, opened, openVersion, roundVersion, results, descriptions, written, readBack, backApplied, waited, backedOff, connectAnswered, taken, handled}
 use Rattle.capi.specs.Calls.{maxWrites}
-use Rattle.turns.specs.Uncut.{boardRoomed, roomed}
+use Rattle.uncut.specs.Uncut.{boardRoomed, roomed}
 use Rattle.turns.proofs.TierLaws.{settingsOf, map-kept, set-kept}
-use Rattle.turns.proofs.FitLaws.{cut-same, pushed-same, ranks-few, Numbered, numbered-same, numbered-version, isGraced, fit-tags, Fits}
-use Rattle.turns.proofs.RoomLaws.{pollingRoomed, tick-same, boundary-same, list-same, after-same, round-fits, groups-fit, list-few}
+use Rattle.uncut.proofs.FitLaws.{cut-same, pushed-same, ranks-few, Numbered, numbered-same, numbered-version, isGraced, fit-tags, Fits}
+use Rattle.uncut.proofs.RoomLaws.{pollingRoomed, tick-same, boundary-same, list-same, after-same, round-fits, groups-fit, list-few}
 
 -- ---- what readings, descriptions and versions keep of each tag
 

@@ -21,7 +21,7 @@ use Rattle.capi.specs.Calls.{tierCheck, tiered, writeCheck, wrote, halted}
 use Rattle.capi.proofs.calls.wz_set_tier.Met as tier
 use Rattle.capi.proofs.calls.wz_write.Met as write
 use Rattle.capi.proofs.calls.wz_stop.Met as stop
-use Rattle.turns.proofs.OneLaws.{one-has}
+use Rattle.possible.proofs.OneLaws.{one-has}
 
 module _ (xs : List ℕ) (f : AllFit w8 xs) (room : Room u8 (length xs)) where
   -- a result that P allows

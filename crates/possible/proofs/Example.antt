@@ -10,9 +10,9 @@ use Rattle.ieee.specs.Round.{float}
 use Rattle.capi.specs.Creation.{creationCheck, freshWorker}
 use Rattle.histories.specs.Events.{BoundaryRound, boundaryRounds}
 use Rattle.histories.specs.Histories.{atEach, answers, trace}
 use Rattle.turns.specs.Calls.{Call, tier, steps, write, lookState, lookPanel, Answer, numberIs, told, stateIs, statsAre, countsAre, listIs, tagIs, answer, after}
 use Rattle.turns.specs.Demand.{roundIn, event}
-use Rattle.turns.proofs.Fresh.{setup}
+use Rattle.possible.proofs.Fresh.{setup}
 use Rattle.lists.specs.Keep as lists-Keep
 use Rattle.lists.specs.Slices as lists-Slices
 use Rattle.lists.specs.Sort as lists-Sort

@@ -32,8 +32,8 @@ use Rattle.versions.specs.Versions.{tagTaken, takenAt, eachAt, tableTaken, vers
 use Rattle.versions.specs.declared.version.Version.{Version}
 use Rattle.board.specs.Board.{Board}
 use Rattle.capi.specs.Calls.{maxWrites}
-use Rattle.turns.specs.Uncut.{groupsRoomed}
+use Rattle.uncut.specs.Uncut.{groupsRoomed}
 use Rattle.turns.proofs.TierLaws.{settingsOf}
 
 -- ---- lists and rooms
 

@@ -40,7 +40,7 @@ use denote.Steps.{nothing}
 use denote.Triple.Entry.{onEntry, Args, Vals}
 use denote.Triple.End.{Kepts, lastsOf}
 use denote.Triple.Spec.{Spec, tripleOf, Meets, exits}
-use Rattle.turns.proofs.RunLaws.{has-result, with-emp, lent-mut, lent-shr, behind, run-apart, taken-back, good-left}
+use Rattle.possible.proofs.RunLaws.{has-result, with-emp, lent-mut, lent-shr, behind, run-apart, taken-back, good-left}
 use Rattle.capi.specs.Memory.{workerIn}
 use lib.Signed.{mag}
 use Rattle.worker.specs.Worker.{at}
