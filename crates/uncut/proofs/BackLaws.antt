@@ -15,7 +15,7 @@ use Rattle.memory.proofs.CellLaws.{cells-at}
 use Rattle.values.specs.declared.value.Value.the-variants.{Null}
 use Rattle.words.specs.Value.{valueFrom}
 use Rattle.lent.specs.Lent.{overBytes}
-use Rattle.readings.specs.Results.{resultCount, resultIn}
+use Rattle.results.specs.Results.{resultCount, resultIn}
 use Rattle.versions.specs.Versions.{isReloaded}
 use Rattle.writes.specs.Queue.{popped}
 use Rattle.writes.specs.ReadBack.{readBackTags, readBackFirst}
