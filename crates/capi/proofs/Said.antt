@@ -15,15 +15,16 @@ use Rattle.worker.specs.Worker.{Worker, at, Told}
 use Rattle.worker.specs.Answers.{step}
 use Rattle.worker.specs.Reply as reply
 use Rattle.worker.specs.declared.reply.Reply.{Reply}
+use Rattle.shown.specs.Looks.{listed, leftIn, panelLeft}
+use Rattle.shown.specs.declared.head.StateLook.{StateLook}
+use Rattle.shown.specs.declared.head.StatsLook.{StatsLook}
+use Rattle.shown.specs.declared.counts.CountsLook.{CountsLook}
+use Rattle.shown.specs.declared.lists.ListLook.{ListLook}
+use Rattle.shown.specs.declared.tag.TagLook.{TagLook}
 use Rattle.capi.specs.Memory.{memorySize, workerIn, Called}
 use Rattle.capi.specs.Calls.{tierCheck, tiered, loadCheck, loaded, writeCheck, wrote, halted, answerOf, Stepped}
 use Rattle.capi.specs.Creation.{Setup, creationCheck, freshWorker}
-use Rattle.capi.specs.Looks.{stateLook, statsLook, countsLook, listed, leftIn, groupCells, groupCount, groupCheck, tableCount, tableCheck, panelBytes, panelCount, panelCode, panelLeft, tagLook}
-use Rattle.capi.specs.declared.looks.StateLook.{StateLook}
-use Rattle.capi.specs.declared.looks.StatsLook.{StatsLook}
-use Rattle.capi.specs.declared.looks.CountsLook.{CountsLook}
-use Rattle.capi.specs.declared.looks.ListLook.{ListLook}
-use Rattle.capi.specs.declared.looks.TagLook.{TagLook}
+use Rattle.capi.specs.Looks.{stateLook, statsLook, countsLook, groupCells, groupCount, groupCheck, tableCount, tableCheck, panelBytes, panelCount, panelCode, tagLook}
 use Rattle.capi.proofs.creation.wz_create.Reads as create-contract
 use Rattle.capi.proofs.calls.wz_set_tier.Reads as tier-contract
 use Rattle.capi.proofs.calls.wz_load.Reads as load-contract

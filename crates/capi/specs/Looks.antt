@@ -1,160 +1,67 @@
--- Looks: what they answer, and what they leave in a lent list. The engine stays as it is.
+-- Looks: what they answer, and what they leave in a lent list, by the engine's memory. The engine stays as it is. `shown` has what is found in a head and a board.
 use mathlib.Core.Bool.{Bool, cond}
 use mathlib.Core.List.{List}
-use Prim.Native.Nat.{ℕ, _+_, _/_}
-use lib.Dec.{eqb, ltb}
-use lib.Ieee.{binary64, ofBits}
-use lib.IntN.{pos}
+use Prim.Native.Nat.{ℕ, _/_}
+use lib.Dec.{eqb}
 use lib.ListN.{length}
-use Rattle.words.specs.Entry.{heldWordsOf}
-use Rattle.table.specs.declared.tag.Tag.{Tag}
-use Rattle.table.specs.declared.tag.Description.{Description}
-use Rattle.table.specs.declared.tag.Description.the-variants.{Unknown, Nothing, Is}
-use Rattle.tiers.specs.Tiers.{tagAt}
-use Rattle.panel.specs.Panel.{panelOf, written, writtenLength}
-use Rattle.lent.specs.Lent.{wroteAll}
-use Rattle.statistics.specs.Counts.{tierCount}
-use Rattle.statistics.specs.Stats.{groupStats, groupsTold}
-use Rattle.versions.specs.declared.version.Version.{Version}
-use Rattle.versions.specs.declared.version.Version.the-variants.{Null as NoVersion, Is as AVersion}
-use Rattle.engine.specs.Link.{stateNumber}
-use Rattle.engine.specs.declared.link.Link.{Link}
-use Rattle.engine.specs.declared.stats.Stats.{Stats}
-use Rattle.board.specs.Board.{Board, factsOf}
 use Rattle.worker.specs.Worker.{Worker}
+use Rattle.shown.specs.Looks as shown
+use Rattle.shown.specs.Looks.{stateOf, noState, statsOf, noStats, countsOf, noCounts, shortOf, noLook, tagFound}
+use Rattle.shown.specs.declared.head.StateLook.{StateLook}
+use Rattle.shown.specs.declared.head.StatsLook.{StatsLook}
+use Rattle.shown.specs.declared.counts.CountsLook.{CountsLook}
+use Rattle.shown.specs.declared.tag.TagLook.{TagLook}
 use Rattle.capi.specs.Memory.{memorySize, notAnEngine, workerIn}
-use Rattle.capi.specs.Calls.{noTag}
-use Rattle.capi.specs.declared.looks.StateLook.{StateLook}
-use Rattle.capi.specs.declared.looks.StatsLook.{StatsLook}
-use Rattle.capi.specs.declared.looks.CountsLook.{CountsLook}
-use Rattle.capi.specs.declared.looks.ListLook.{ListLook}
-use Rattle.capi.specs.declared.looks.TagLook.{TagLook}
 
 abbrev pub isEngine : List ℕ → Bool
 isEngine mem = eqb (length mem) memorySize
 
--- ---- the state and the version
-
-abbrev pub knownCell : Version → ℕ
-knownCell NoVersion = 0
-knownCell (AVersion n) = 1
-
-abbrev pub versionCell : Version → ℕ
-versionCell NoVersion = 0
-versionCell (AVersion n) = n
-
-abbrev pub stateOf : Link → StateLook
-stateOf x = record { code = 0; state = stateNumber (x .state); known = knownCell (x .version); version = versionCell (x .version) }
-
-abbrev pub noState : ℕ → StateLook
-noState code = record { code = code; state = 0; known = 0; version = 0 }
-
 unfoldable pub stateLook : List ℕ → StateLook
 stateLook mem = cond (isEngine mem) (stateOf (workerIn mem .head .link)) (noState notAnEngine)
 
--- ---- rule 10: the statistics of the rounds
-
--- 1 where a round has ended; without one the time and the wall time are 0
-abbrev pub statsOf : Stats → StatsLook
-statsOf x = record {
-  code = 0;
-  timed = cond (x .timed) 1 0;
-  ms = cond (x .timed) (x .ms) (ofBits binary64 0);
-  ts = cond (x .timed) (x .ts) (pos 0);
-  reads = x .tags;
-  tags = x .tags;
-  overruns = x .overruns;
-  reconnects = x .reconnects;
-  reloads = x .reloads;
-}
-
-abbrev pub noStats : ℕ → StatsLook
-noStats code = record { code = code; timed = 0; ms = ofBits binary64 0; ts = pos 0; reads = 0; tags = 0; overruns = 0; reconnects = 0; reloads = 0 }
-
+-- Rule 10: the statistics of the rounds
 unfoldable pub statsLook : List ℕ → StatsLook
 statsLook mem = cond (isEngine mem) (statsOf (workerIn mem .head .stats)) (noStats notAnEngine)
 
--- ---- rule 10: tier counts
-
-abbrev pub countIn : Board → ℕ → ℕ
-countIn B tier = tierCount tier (B .table .tags) (B .table .order)
-
-abbrev pub countsOf : Board → CountsLook
-countsOf B = record { code = 0; tier1 = countIn B 1; tier2 = countIn B 2; tier3 = countIn B 3 }
-
-abbrev pub noCounts : ℕ → CountsLook
-noCounts code = record { code = code; tier1 = 0; tier2 = 0; tier3 = 0 }
-
+-- Rule 10: tier counts
 unfoldable pub countsLook : List ℕ → CountsLook
 countsLook mem = cond (isEngine mem) (countsOf (workerIn mem .board)) (noCounts notAnEngine)
 
 -- ---- lists
 
--- a look that refuses with n, or gives so many
-abbrev pub listed : ℕ → ℕ → ListLook
-listed code n = record { code = code; count = cond (eqb code 0) n 0 }
-
 -- Check 43: fewer places than asked for
 abbrev pub roomCheck : List ℕ → ℕ → ℕ → ℕ
-roomCheck mem places asked = cond (isEngine mem) (cond (ltb places asked) 43 0) notAnEngine
+roomCheck mem places asked = cond (isEngine mem) (shortOf places asked) notAnEngine
 
--- what the lent list holds: the cells where nothing refuses
-abbrev pub leftIn : ℕ → List ℕ → List ℕ → List ℕ
-leftIn code out cells = cond (eqb code 0) (wroteAll out cells) out
-
--- Rule 10: group statistics, five cells each; 16 places are asked for
+-- Rule 10: group statistics; 16 places are asked for
 abbrev pub groupCells : Worker → List ℕ
-groupCells W = groupStats (factsOf (W .board))
+groupCells W = shown.groupCells (W .board)
 
--- how many; an engine has 16 at most, which the places asked for hold, but other bytes can name more, and then none is told
 abbrev pub groupCount : Worker → List ℕ → ℕ
-groupCount W out = groupsTold out (factsOf (W .board))
+groupCount W out = shown.groupCount (W .board) out
 
 abbrev pub groupCheck : List ℕ → List ℕ → ℕ
 groupCheck mem out = roomCheck mem (length out / 40) 16
 
--- n, or none where there are fewer places
-abbrev pub fitting : ℕ → ℕ → ℕ
-fitting n places = cond (ltb places n) 0 n
-
--- how many tags the table lists; an engine has 120 at most, which the places asked for hold, but other bytes can list more, and then none is written
+-- the table in table order; as many places are asked for as there are tags at most
 abbrev pub tableCount : Worker → List ℕ → ℕ
-tableCount W out = fitting (length (W .board .table .order)) (length out / 16)
+tableCount W out = shown.tableCount (W .board) out
 
--- the table in table order: tag and tier, two cells each; as many places are asked for as there are tags at most
 abbrev pub tableCheck : List ℕ → List ℕ → ℕ
 tableCheck mem out = roomCheck mem (length out / 16) (length (workerIn mem .board .table .tags))
 
 -- Rule 11: the panel list; the room asked for is that of a list of all tags
 abbrev pub panelBytes : Worker → List ℕ
-panelBytes W = panelOf (W .board .table .tags) (W .board .table .order)
+panelBytes W = shown.panelBytes (W .board)
 
--- its length; an engine has 120 tags at most, which the room asked for holds, but other bytes can list more, and then none is written
 abbrev pub panelCount : Worker → List ℕ → ℕ
-panelCount W out = writtenLength out (panelBytes W)
+panelCount W out = shown.panelCount (W .board) out
 
 abbrev pub panelCode : List ℕ → List ℕ → ℕ
 panelCode mem out = roomCheck mem (length out) 241
 
-abbrev pub panelLeft : ℕ → List ℕ → List ℕ → List ℕ
-panelLeft code out bytes = cond (eqb code 0) (written out bytes) out
-
 -- ---- a tag
-
-abbrev pub descriptionCell : Description → ℕ
-descriptionCell Unknown = 0
-descriptionCell Nothing = 1
-descriptionCell (Is n) = n + 2
-
-abbrev pub tagOf : Tag → TagLook
-tagOf x =
-    let w = heldWordsOf (x .cached) in
-    record { code = 0; tier = x .tier; held = w .held; kind = w .kind; word = w .word; t = w .t; error = w .error; message = w .message; description = descriptionCell (x .description) }
-
-abbrev pub noLook : ℕ → TagLook
-noLook code = record { code = code; tier = 0; held = 0; kind = 0; word = 0; t = 0; error = 0; message = 0; description = 0 }
 
 -- Check 23: no such tag
 unfoldable pub tagLook : List ℕ → ℕ → TagLook
-tagLook mem tag =
-    cond (isEngine mem) (cond (noTag (workerIn mem) tag) (noLook 23) (tagOf (tagAt (workerIn mem .board .table) tag))) (noLook notAnEngine)
+tagLook mem tag = cond (isEngine mem) (tagFound (workerIn mem .board) (workerIn mem .head .count) tag) (noLook notAnEngine)

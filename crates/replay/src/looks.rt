@@ -1,8 +1,5 @@
 // Looks.
 use crate::calls::small;
-use capi::looks::ListLook;
-use capi::looks::StatsLook;
-use capi::looks::TagLook;
 use capi::looks::wz_group_stats;
 use capi::looks::wz_panel;
 use capi::looks::wz_state;
@@ -11,6 +8,9 @@ use capi::looks::wz_table;
 use capi::looks::wz_tag;
 use capi::looks::wz_tier_counts;
 use frames::answer::Answered;
+use shown::head::StatsLook;
+use shown::lists::ListLook;
+use shown::tag::TagLook;
 use words::scalar::word_of_float;
 use words::scalar::word_of_int;
 

@@ -12,15 +12,16 @@ use Rattle.board.specs.Board.{rowCells}
 use Rattle.worker.specs.Worker.{at}
 use Rattle.worker.specs.Answers.{step}
 use Rattle.worker.specs.declared.reply.Reply.{Reply}
+use Rattle.shown.specs.Looks.{listed, leftIn, panelLeft}
+use Rattle.shown.specs.declared.head.StateLook.{StateLook}
+use Rattle.shown.specs.declared.head.StatsLook.{StatsLook}
+use Rattle.shown.specs.declared.counts.CountsLook.{CountsLook}
+use Rattle.shown.specs.declared.lists.ListLook.{ListLook}
+use Rattle.shown.specs.declared.tag.TagLook.{TagLook}
 use Rattle.capi.specs.Memory.{workerIn, Called}
 use Rattle.capi.specs.Calls.{tierCheck, tiered, loadCheck, loaded, writeCheck, wrote, halted, answerOf, Stepped}
 use Rattle.capi.specs.Creation.{Setup, creationCheck, freshWorker}
-use Rattle.capi.specs.Looks.{stateLook, statsLook, countsLook, listed, leftIn, groupCells, groupCount, groupCheck, tableCount, tableCheck, panelBytes, panelCount, panelCode, panelLeft, tagLook}
-use Rattle.capi.specs.declared.looks.StateLook.{StateLook}
-use Rattle.capi.specs.declared.looks.StatsLook.{StatsLook}
-use Rattle.capi.specs.declared.looks.CountsLook.{CountsLook}
-use Rattle.capi.specs.declared.looks.ListLook.{ListLook}
-use Rattle.capi.specs.declared.looks.TagLook.{TagLook}
+use Rattle.capi.specs.Looks.{stateLook, statsLook, countsLook, groupCells, groupCount, groupCheck, tableCount, tableCheck, panelBytes, panelCount, panelCode, tagLook}
 use Rattle.turns.specs.Calls.{Call, tier, load, steps, write, stop, lookState, lookStats, lookCounts, lookGroups, lookTable, lookPanel, lookTag}
 use Rattle.turns.specs.Contracts.{Asked, CreateMet, TierMet, LoadMet, WriteMet, StopMet, StepMet, StateMet, StatsMet, CountsMet, GroupsMet, TableMet, PanelMet, TagMet}
 

@@ -13,13 +13,14 @@ use Rattle.board.specs.Board.{rowCells}
 use Rattle.worker.specs.Worker.{Worker, Told, at}
 use Rattle.worker.specs.Answers.{step}
 use Rattle.worker.specs.declared.reply.Reply.{Reply}
+use Rattle.shown.specs.Looks.{stateOf, statsOf, countsOf, listed, leftIn, panelLeft, tagOf, noLook}
+use Rattle.shown.specs.declared.head.StateLook.{StateLook}
+use Rattle.shown.specs.declared.head.StatsLook.{StatsLook}
+use Rattle.shown.specs.declared.counts.CountsLook.{CountsLook}
+use Rattle.shown.specs.declared.lists.ListLook.{ListLook}
+use Rattle.shown.specs.declared.tag.TagLook.{TagLook}
 use Rattle.capi.specs.Calls.{noTag, tierCheck, tiered, loadCheck, loaded, writeCheck, wrote, halted, answerOf}
-use Rattle.capi.specs.Looks.{stateOf, statsOf, countsOf, listed, leftIn, groupCells, groupCount, tableCount, panelBytes, panelCount, panelLeft, tagOf, noLook}
-use Rattle.capi.specs.declared.looks.StateLook.{StateLook}
-use Rattle.capi.specs.declared.looks.StatsLook.{StatsLook}
-use Rattle.capi.specs.declared.looks.CountsLook.{CountsLook}
-use Rattle.capi.specs.declared.looks.ListLook.{ListLook}
-use Rattle.capi.specs.declared.looks.TagLook.{TagLook}
+use Rattle.capi.specs.Looks.{groupCells, groupCount, tableCount, panelBytes, panelCount}
 
 -- A call of an entry point, with its arguments but the engine: numbers, and the bytes of each list that it is lent. `out` is a list that it may write.
 pub data Call : Type 0 where

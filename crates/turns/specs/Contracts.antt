@@ -9,12 +9,12 @@ use denote.Ref.{RefT}
 use lib.Ieee.{Float}
 use lib.IntN.{ℤ}
 use Rattle.worker.specs.declared.reply.Reply.{Reply}
+use Rattle.shown.specs.declared.head.StateLook.{StateLook}
+use Rattle.shown.specs.declared.head.StatsLook.{StatsLook}
+use Rattle.shown.specs.declared.counts.CountsLook.{CountsLook}
+use Rattle.shown.specs.declared.lists.ListLook.{ListLook}
+use Rattle.shown.specs.declared.tag.TagLook.{TagLook}
 use Rattle.capi.specs.Creation.{Setup}
-use Rattle.capi.specs.declared.looks.StateLook.{StateLook}
-use Rattle.capi.specs.declared.looks.StatsLook.{StatsLook}
-use Rattle.capi.specs.declared.looks.CountsLook.{CountsLook}
-use Rattle.capi.specs.declared.looks.ListLook.{ListLook}
-use Rattle.capi.specs.declared.looks.TagLook.{TagLook}
 use Rattle.capi.proofs.creation.wz_create.Reads as create-contract
 use Rattle.capi.proofs.calls.wz_set_tier.Reads as tier-contract
 use Rattle.capi.proofs.calls.wz_load.Reads as load-contract

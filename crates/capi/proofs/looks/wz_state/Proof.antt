@@ -3,7 +3,8 @@ use mathlib.Core.Path.{ap, sym, _∙_}
 use denote.Ref.{now}
 use Rattle.engine.specs.declared.Engine.{Engine}
 use Rattle.capi.specs.Memory.{notAnEngine, workerIn}
-use Rattle.capi.specs.Looks.{noState, stateOf, stateLook}
+use Rattle.shown.specs.Looks.{noState, stateOf}
+use Rattle.capi.specs.Looks.{stateLook}
 use Rattle.capi.proofs.LookLaws.{alien, own}
 use borrow.Author.Needs.{needs}
 use Rattle.capi.proofs.looks.wz_state.Statement.{statement}

@@ -1,14 +1,11 @@
 -- `capi::looks::wz_tag` meets its contract.
-use mathlib.Core.Bool.{true, false}
-use mathlib.Core.Path.{_≡_, refl, ap, sym, _∙_}
-use borrow.Author.Tests.{eq-eqb, ne-eqb, le-leb, lt-leb}
+use mathlib.Core.Path.{ap, sym, _∙_}
 use denote.Ref.{now}
-use lib.Dec.{leb}
-use lib.ListN.{length}
 use Rattle.engine.specs.declared.Engine.{Engine}
-use Rattle.capi.specs.Memory.{memorySize, workerIn}
-use Rattle.capi.specs.Calls.{noTag}
-use Rattle.capi.specs.Looks.{isEngine, tagLook}
+use Rattle.shown.specs.Looks.{noLook, tagFound}
+use Rattle.capi.specs.Memory.{notAnEngine, workerIn}
+use Rattle.capi.specs.Looks.{tagLook}
+use Rattle.capi.proofs.LookLaws.{alien, own}
 use borrow.Author.Needs.{needs}
 use Rattle.capi.proofs.looks.wz_tag.Statement.{statement}
 use Rattle.capi.proofs.looks.wz_tag.Tie as tie
@@ -24,49 +21,33 @@ unfolding tagLook
 returns c =
     let a = c .before .before .before .args in
     let mem = now (a .mem) in
-    let other : isEngine mem ≡ false = ne-eqb (length mem) memorySize (c .before .if1 .taken) in
-    c .no-look .ensures ∙ rw other refl
+    let W = workerIn mem in
+    c .no-look .ensures ∙ sym (alien mem (tagFound (W .board) (W .head .count) (a .tag)) (noLook notAnEngine) (c .before .if1 .taken))
 
 head-of-requires : tie.Need-head-of-requires
 head-of-requires c κs = search needs
 
-cast-if2 : tie.Need-cast-if2
-cast-if2 c = search needs
+sub-tag : tie.Need-sub-tag
+sub-tag c = search needs
 
-no-look-requires-2 : tie.Need-no-look-requires-2
-no-look-requires-2 c κs = search needs
+part-tag-start : tie.Need-part-tag-start
+part-tag-start c = search needs
+
+part-tag-end : tie.Need-part-tag-end
+part-tag-end c = search needs
+
+tag-requires : tie.Need-tag-requires
+tag-requires c κs = search needs
 
 returns-2 : tie.Need-returns-2
-unfolding tagLook
-returns-2 c =
-    let a = c .before .before .before .before .before .before .args in
-    let mem = now (a .mem) in
-    let none : noTag (workerIn mem) (a .tag) ≡ true =
-    ap (λ (e : Engine). leb (e .count) (a .tag)) (sym (c .before .before .before .head-of .ensures)) ∙ le-leb _ _ (c .before .if2 .taken) in
-    let whole : isEngine mem ≡ true = eq-eqb (length mem) memorySize (c .before .before .before .before .if1 .left) in
-    c .no-look2 .ensures ∙ rw (whole, none) refl
-
-sub-tag-of : tie.Need-sub-tag-of
-sub-tag-of c = search needs
-
-part-tag-of-start : tie.Need-part-tag-of-start
-part-tag-of-start c = search needs
-
-part-tag-of-end : tie.Need-part-tag-of-end
-part-tag-of-end c = search needs
-
-tag-of-requires : tie.Need-tag-of-requires
-tag-of-requires c κs = search needs
-
-returns-3 : tie.Need-returns-3
 unfolding tagLook workerIn
-returns-3 c =
-    let a = c .before .before .before .before .before .before .before .args in
+returns-2 c =
+    let a = c .before .before .before .before .before .args in
     let mem = now (a .mem) in
-    let some : noTag (workerIn mem) (a .tag) ≡ false =
-    ap (λ (e : Engine). leb (e .count) (a .tag)) (sym (c .before .before .before .before .head-of .ensures)) ∙ lt-leb _ _ (c .before .before .if2 .left) in
-    let whole : isEngine mem ≡ true = eq-eqb (length mem) memorySize (c .before .before .before .before .before .if1 .left) in
-    c .tag-of .ensures ∙ rw (whole, some) refl
+    let W = workerIn mem in
+    c .tag .ensures
+    ∙ ap (λ (e : Engine). tagFound (W .board) (e .count) (a .tag)) (c .before .before .head-of .ensures)
+    ∙ sym (own mem (tagFound (W .board) (W .head .count) (a .tag)) (noLook notAnEngine) (c .before .before .before .if1 .left))
 
 pub wz-tag-spec : {M : Type 1} → statement M
 wz-tag-spec =
@@ -76,11 +57,8 @@ wz-tag-spec =
     no-look-requires
     returns
     head-of-requires
-    cast-if2
-    no-look-requires-2
-    returns-2
-    sub-tag-of
-    part-tag-of-start
-    part-tag-of-end
-    tag-of-requires
-    returns-3)
+    sub-tag
+    part-tag-start
+    part-tag-end
+    tag-requires
+    returns-2)

@@ -2,7 +2,8 @@
 use mathlib.Core.Path.{sym, _∙_}
 use denote.Ref.{now}
 use Rattle.capi.specs.Memory.{notAnEngine, workerIn}
-use Rattle.capi.specs.Looks.{countsOf, noCounts, countsLook}
+use Rattle.shown.specs.Looks.{countsOf, noCounts}
+use Rattle.capi.specs.Looks.{countsLook}
 use Rattle.capi.proofs.LookLaws.{alien, own}
 use borrow.Author.Needs.{needs}
 use Rattle.capi.proofs.looks.wz_tier_counts.Statement.{statement}

@@ -1,0 +1,2 @@
+-- Laws of what looks answer.
+pub mod LookLaws

@@ -1,0 +1,2 @@
+-- What looks answer, by the head and the board.
+pub mod Looks

@@ -1,0 +1,80 @@
+// Lists that are lent for writing: group statistics, the table, the panel list. Check 43 is the first of each.
+ghost use mathlib.Core.Path.{_≡_};
+ghost use Prim.Native.Nat.{_/_};
+ghost use lib.ListN.{length};
+ghost use Rattle.lent.specs.Lent.{records};
+ghost use Rattle.board.specs.Regions.{boardSize};
+ghost use Rattle.board.specs.Board.{boardIn, rowCells};
+ghost use Rattle.shown.specs.Looks.{listed, shortOf, leftIn, groupCells, groupCount, fitting, tableCount, panelBytes, panelCount, panelLeft};
+
+// How many records, or bytes, a lent list has.
+#[repr(C)]
+pub struct ListLook {
+    pub code: u64,
+    pub count: u64,
+}
+
+pub fn listed(code: u64, n: usize) -> ListLook
+    ensures { λ r. ⌜ r ≡ listed code n ⌝ }
+{
+    if code == 0 {
+        return ListLook {
+            code: 0,
+            count: n as u64,
+        };
+    }
+    ListLook {
+        code: code,
+        count: 0,
+    }
+}
+
+// The groups' statistics: number, rate, tags in tier 1, 1 where there is a period, and its bits.
+pub fn group_stats(board: &[u8], out: &mut [u8]) -> ListLook
+    requires { ⌜ length (now board) ≡ boardSize ⌝ }
+    ensures { λ r. ⌜ r ≡ listed (shortOf (length (now (out .entry)) / 40) 16) (groupCount (boardIn (now (board .entry))) (now (out .entry))) ⌝ }
+    ensures { λ _. ⌜ now (out .exit) ≡ leftIn (shortOf (length (now (out .entry)) / 40) 16) (now (out .entry)) (groupCells (boardIn (now (board .entry)))) ⌝ }
+{
+    if out.len() / 40 < 16 {
+        return listed(43, 0);
+    }
+    let n = board::looks::group_stats(board, out);
+    listed(0, n)
+}
+
+// As many as there is room for: all or none.
+fn fitting(n: usize, places: usize) -> usize
+    ensures { λ r. ⌜ r ≡ fitting n places ⌝ }
+{
+    if places < n {
+        return 0;
+    }
+    n
+}
+
+// The table in table order: tag and tier.
+pub fn table(board: &[u8], out: &mut [u8]) -> ListLook
+    requires { ⌜ length (now board) ≡ boardSize ⌝ }
+    ensures { λ r. ⌜ r ≡ listed (shortOf (length (now (out .entry)) / 16) (length (boardIn (now (board .entry)) .table .tags))) (tableCount (boardIn (now (board .entry))) (now (out .entry))) ⌝ }
+    ensures { λ _. ⌜ now (out .exit) ≡ leftIn (shortOf (length (now (out .entry)) / 16) (length (boardIn (now (board .entry)) .table .tags))) (now (out .entry)) (records (rowCells (boardIn (now (board .entry)))) (boardIn (now (board .entry)) .table .order)) ⌝ }
+{
+    if out.len() / 16 < 120 {
+        return listed(43, 0);
+    }
+    let places = out.len() / 16;
+    let n = board::looks::put_table(board, out);
+    listed(0, fitting(n, places))
+}
+
+// The panel list; `count` is its length in bytes.
+pub fn panel(board: &[u8], out: &mut [u8]) -> ListLook
+    requires { ⌜ length (now board) ≡ boardSize ⌝ }
+    ensures { λ r. ⌜ r ≡ listed (shortOf (length (now (out .entry))) 241) (panelCount (boardIn (now (board .entry))) (now (out .entry))) ⌝ }
+    ensures { λ _. ⌜ now (out .exit) ≡ panelLeft (shortOf (length (now (out .entry))) 241) (now (out .entry)) (panelBytes (boardIn (now (board .entry)))) ⌝ }
+{
+    if out.len() < 241 {
+        return listed(43, 0);
+    }
+    let n = board::looks::write_panel(board, out);
+    listed(0, n)
+}
