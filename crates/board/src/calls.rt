@@ -5,17 +5,17 @@ ghost use Rattle.tiers.specs.Tiers.{setTier};
 ghost use Rattle.panel.specs.Panel.{loadedList};
 ghost use Rattle.board.specs.Regions.{boardSize};
 ghost use Rattle.board.specs.Board.{boardIn, withTable};
-use super::parts::copied;
-use super::parts::put_back;
+use super::parts::part_of;
+use super::parts::put_part;
 
 // Rule 5: a tier call.
 pub fn set_tier(board: &mut [u8], k: u16, tier: u8, grace: f64, clock: f64)
     requires { ⌜ length (now board) ≡ boardSize ⌝ }
     ensures { λ _. ⌜ boardIn (now (board .exit)) ≡ withTable (boardIn (now (board .entry))) (setTier (boardIn (now (board .entry)) .table) k tier grace clock) ⌝ }
 {
-    let mut order = copied(&board[256..512]);
-    let mut graces = copied(&board[512..768]);
-    let words = copied(&board[1024..1280]);
+    let mut order = part_of(board, 256);
+    let mut graces = part_of(board, 512);
+    let words = part_of(board, 1024);
     tiers::grace::set_tier(
         &mut board[7424..38144],
         &mut order,
@@ -26,8 +26,8 @@ pub fn set_tier(board: &mut [u8], k: u16, tier: u8, grace: f64, clock: f64)
         grace,
         clock,
     );
-    put_back(&mut board[256..512], order);
-    put_back(&mut board[512..768], graces);
+    put_part(board, 256, order);
+    put_part(board, 512, graces);
 }
 
 // Rule 11: a panel list loaded.
@@ -35,9 +35,9 @@ pub fn load_panel(board: &mut [u8], list: &[u8], grace: f64, clock: f64)
     requires { ⌜ length (now board) ≡ boardSize ⌝ }
     ensures { λ _. ⌜ boardIn (now (board .exit)) ≡ withTable (boardIn (now (board .entry))) (loadedList (boardIn (now (board .entry)) .table) (now (list .entry)) grace clock) ⌝ }
 {
-    let mut new_order = copied(&board[256..512]);
-    let mut new_graces = copied(&board[512..768]);
-    let words = copied(&board[1024..1280]);
+    let mut new_order = part_of(board, 256);
+    let mut new_graces = part_of(board, 512);
+    let words = part_of(board, 1024);
     panel::load::load_panel(
         &mut board[7424..38144],
         &mut new_order,
@@ -47,8 +47,8 @@ pub fn load_panel(board: &mut [u8], list: &[u8], grace: f64, clock: f64)
         grace,
         clock,
     );
-    put_back(&mut board[256..512], new_order);
-    put_back(&mut board[512..768], new_graces);
+    put_part(board, 256, new_order);
+    put_part(board, 512, new_graces);
 }
 
 // How many tags are in a tier.

@@ -2,13 +2,14 @@
 ghost use mathlib.Core.Bool.{true, false};
 ghost use mathlib.Core.Path.{_≡_};
 ghost use lib.ListN.{length};
+ghost use Rattle.memory.specs.Lists.{listIn};
 ghost use Rattle.lent.specs.Lent.{wroteAll};
 ghost use Rattle.board.specs.Regions.{boardSize};
-ghost use Rattle.board.specs.Board.{boardIn, roundOf, appliedTo, staledIn, Worked, Changing};
-use super::parts::copied;
-use super::parts::groups_copied;
-use super::parts::put_back;
-use super::parts::put_groups_back;
+ghost use Rattle.board.specs.Board.{boardIn, roundOf, appliedTo, staledIn, changesIn, Worked, Changing};
+use super::parts::groups_of;
+use super::parts::part_of;
+use super::parts::put_groups;
+use super::parts::put_part;
 use engine::Engine;
 use lent::changes::put_changes;
 use memory::tags::count;
@@ -22,13 +23,13 @@ pub fn poll(board: &mut [u8], o: Options, c: Cycle, clock: f64) -> CycleTags
     requires { ⌜ length (now board) ≡ boardSize ⌝ }
     ensures { λ r. ⌜ Worked (boardIn (now (board .entry))) (roundOf (boardIn (now (board .entry))) o c clock) r (boardIn (now (board .exit))) ⌝ }
 {
-    let mut order = copied(&board[256..512]);
-    let mut graces = copied(&board[512..768]);
-    let keys = copied(&board[768..1024]);
-    let words = copied(&board[1024..1280]);
-    let mut asked = copied(&board[1280..1536]);
-    let mut recorded = copied(&board[1536..1792]);
-    let mut groups = groups_copied(&board[3328..7424]);
+    let mut order = part_of(board, 256);
+    let mut graces = part_of(board, 512);
+    let keys = part_of(board, 768);
+    let words = part_of(board, 1024);
+    let mut asked = part_of(board, 1280);
+    let mut recorded = part_of(board, 1536);
+    let mut groups = groups_of(board);
     let mut sorted = [0u8; 256];
     let mut wanted = [0u8; 256];
     let r = cycle_tags(
@@ -46,12 +47,22 @@ pub fn poll(board: &mut [u8], o: Options, c: Cycle, clock: f64) -> CycleTags
         c,
         clock,
     );
-    put_back(&mut board[256..512], order);
-    put_back(&mut board[512..768], graces);
-    put_back(&mut board[1280..1536], asked);
-    put_back(&mut board[1536..1792], recorded);
-    put_groups_back(&mut board[3328..7424], groups);
+    put_part(board, 256, order);
+    put_part(board, 512, graces);
+    put_part(board, 1280, asked);
+    put_part(board, 1536, recorded);
+    put_groups(board, groups);
     r
+}
+
+// The changes listed, into `out`, and how many they are.
+fn tell_changes(board: &[u8], out: &mut [u8], changes: &[u8]) -> usize
+    requires { ⌜ length (now board) ≡ boardSize ⌝ }
+    ensures { λ r. ⌜ r ≡ length (listIn (now (changes .entry))) ⌝ }
+    ensures { λ _. ⌜ now (out .exit) ≡ wroteAll (now (out .entry)) (changesIn (boardIn (now (board .entry))) (listIn (now (changes .entry)))) ⌝ }
+{
+    put_changes(out, &board[7424..38144], changes);
+    count(changes)
 }
 
 // Rule 7: the readings of the tags asked for; the changes go into `out`.
@@ -66,7 +77,7 @@ pub fn apply(
     requires { ⌜ length (now board) ≡ boardSize ⌝ }
     ensures { λ r. ⌜ Changing (appliedTo (boardIn (now (board .entry))) (now (results .entry)) start t polled) r (boardIn (now (board .exit))) (now (out .entry)) (now (out .exit)) ⌝ }
 {
-    let asked = copied(&board[1280..1536]);
+    let asked = part_of(board, 1280);
     let mut sent = [0u8; 256];
     let mut changes = [0u8; 256];
     readings::results::apply(
@@ -79,8 +90,7 @@ pub fn apply(
         t,
         polled,
     );
-    put_changes(out, &board[7424..38144], &changes);
-    count(&changes)
+    tell_changes(board, out, &changes)
 }
 
 // Rule 7: the results of a round, which count from its start, however late they come.
@@ -97,7 +107,7 @@ pub fn apply_back(board: &mut [u8], out: &mut [u8], start: f64, t: i64) -> usize
     requires { ⌜ length (now board) ≡ boardSize ⌝ }
     ensures { λ r. ⌜ Changing (appliedTo (boardIn (now (board .entry))) (boardIn (now (board .entry)) .back) start t false) r (boardIn (now (board .exit))) (now (out .entry)) (now (out .exit)) ⌝ }
 {
-    let back = copied(&board[0..256]);
+    let back = part_of(board, 0);
     apply(board, out, &back, start, t, false)
 }
 
@@ -108,8 +118,7 @@ pub fn mark_stale(board: &mut [u8], out: &mut [u8]) -> usize
 {
     let mut changes = [0u8; 256];
     readings::stale::mark_stale(&mut board[7424..38144], &mut changes);
-    put_changes(out, &board[7424..38144], &changes);
-    count(&changes)
+    tell_changes(board, out, &changes)
 }
 
 // The tags asked for, into `out`.
