@@ -88,20 +88,18 @@ back-kept bs y z results h e i f j =
     ∙ ap (λ (B : Board). withBack B new) (asked-put bs y h (take (resultCount results) (listIn (part 1280 256 bs))) e i)
 
 -- y is what the wants made of the copy y0 of the list asked for, b the board with it back
-pub wants-used : (bs t y0 y b : List ℕ) → length bs ≡ boardSize
-    → length t ≡ length (part 7424 30720 bs) → tableIn t ≡ map unwanted (tableIn (part 7424 30720 bs))
+pub wants-used : (bs y0 y b t : List ℕ) → length bs ≡ boardSize
     → y0 ≡ part 1280 256 bs → length y ≡ length y0 → listIn y ≡ fitted (room y0) (askedTags (tableIn (part 7424 30720 bs)))
-    → b ≡ putMid 1280 256 (putMid 7424 30720 bs t) y
-    → boardIn b ≡ describing (boardIn bs)
+    → length b ≡ length bs → b ≡ putMid 1280 256 bs y
+    → length t ≡ length (part 7424 30720 b) → tableIn t ≡ map unwanted (tableIn (part 7424 30720 b))
+    → boardIn (putMid 7424 30720 b t) ≡ describing (boardIn bs)
 unfolding boardIn boardOf regionsIn
-wants-used bs t y0 y b h e i c f j put =
-    let b1 = putMid 7424 30720 bs t in
-    let h1 : length b1 ≡ boardSize = same-len-mid 7424 30720 bs t e ∙ h in
+wants-used bs y0 y b t h c f j k put e i =
     let tags = askedTags (tableIn (part 7424 30720 bs)) in
     let list = fitted (room (part 1280 256 bs)) tags in
-    let wide : length y ≡ length (part 1280 256 b1) =
-    f ∙ ap (λ (z : List ℕ). length z) c ∙ part-length 1280 256 bs (omega (arith, h)) ∙ sym (part-length 1280 256 b1 (omega (arith, h1)))
-    in
+    let asked : boardIn b ≡ withAsked (boardIn bs) list =
     ap (λ (z : List ℕ). boardOf (regionsIn z)) put
-    ∙ asked-put b1 y h1 list wide (j ∙ ap (λ (z : List ℕ). fitted (room z) tags) c)
-    ∙ ap (λ (B : Board). withAsked B list) (records-put bs t h (map unwanted (tableIn (part 7424 30720 bs))) e i)
+    ∙ asked-put bs y h list (f ∙ ap (λ (z : List ℕ). length z) c) (j ∙ ap (λ (z : List ℕ). fitted (room z) tags) c)
+    in
+    records-put b t (k ∙ h) (map unwanted (tableIn (part 7424 30720 b))) e i
+    ∙ ap (λ (B : Board). withRecords B (map unwanted (B .table .tags))) asked

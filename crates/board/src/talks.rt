@@ -37,8 +37,8 @@ pub fn ask_descriptions(board: &mut [u8])
 {
     let mut asked = part_of(board, 1280);
     descriptions::list_asked(&board[7424..38144], &mut asked);
-    descriptions::use_up(&mut board[7424..38144]);
     put_part(board, 1280, asked);
+    descriptions::use_up(&mut board[7424..38144]);
 }
 
 pub fn learn(board: &mut [u8], found: &[u8])

@@ -15,53 +15,37 @@ part-of-requires c κs = search needs
 part-of-requires-2 : tie.Need-part-of-requires-2
 part-of-requires-2 c κs = search needs
 
-part-of-requires-3 : tie.Need-part-of-requires-3
-part-of-requires-3 c κs = search needs
+slice-aggregate-load-in-table : tie.Need-slice-aggregate-load-in-table
+slice-aggregate-load-in-table c = search needs
 
-sub-load-panel : tie.Need-sub-load-panel
-sub-load-panel c = search needs
+slice-aggregate-load-in-table-2 : tie.Need-slice-aggregate-load-in-table-2
+slice-aggregate-load-in-table-2 c = search needs
 
-part-load-panel-start : tie.Need-part-load-panel-start
-part-load-panel-start c = search needs
-
-part-load-panel-end : tie.Need-part-load-panel-end
-part-load-panel-end c = search needs
-
-slice-aggregate-load-panel : tie.Need-slice-aggregate-load-panel
-slice-aggregate-load-panel c = search needs
-
-slice-aggregate-load-panel-2 : tie.Need-slice-aggregate-load-panel-2
-slice-aggregate-load-panel-2 c = search needs
-
-slice-aggregate-load-panel-3 : tie.Need-slice-aggregate-load-panel-3
-slice-aggregate-load-panel-3 c = search needs
-
-load-panel-requires : tie.Need-load-panel-requires
-load-panel-requires c κs = search needs
+load-in-table-requires : tie.Need-load-in-table-requires
+load-in-table-requires c κs = search needs
 
 put-part-requires : tie.Need-put-part-requires
-put-part-requires c κs = omega (arith, c .before .before .before .before .board .given .1, c .before .before .before .before .before .before .before .before .before .before .before .before .before .before .before .before .before .before .pre)
+put-part-requires c κs = omega (arith, c .before .before .before .before .before .load-in-table .kept .0, c .before .before .before .before .before .before .before .before .before .before .before .before .before .before .before .pre)
 
 put-part-requires-2 : tie.Need-put-part-requires-2
-put-part-requires-2 c κs = omega (arith, c .before .before .before .put-part .kept .0, c .before .before .before .before .before .before .before .before .board .given .1, c .before .before .before .before .before .before .before .before .before .before .before .before .before .before .before .before .before .before .before .before .before .before .pre)
+put-part-requires-2 c κs = omega (arith, c .before .before .before .put-part .kept .0, c .before .before .before .before .before .before .before .before .before .load-in-table .kept .0, c .before .before .before .before .before .before .before .before .before .before .before .before .before .before .before .before .before .before .before .pre)
 
 same-length : tie.Need-same-length
-same-length c = c .before .before .put-part2 .kept .0 ∙ c .before .before .before .before .before .before .put-part .kept .0 ∙ c .before .before .before .before .before .before .before .before .before .before .before .board .given .1
+same-length c = c .before .before .put-part2 .kept .0 ∙ c .before .before .before .before .before .before .put-part .kept .0 ∙ c .before .before .before .before .before .before .before .before .before .before .before .before .load-in-table .kept .0
 
 returns : tie.Need-returns
 returns c =
-    let s = c .before .before .before .before .before .before .before .before .before .before .before .before .before .before .before .before .before .before .before .before .before .before .before .before .before in
+    let s = c .before .before .before .before .before .before .before .before .before .before .before .before .before .before .before .before .before .before .before .before .before .before in
     let a = s .args in
-    let order = c .before .before .before .before .before .before .before .before .before .before .before .before .before .before .before .before .before .before .before .before .before .part-of in
-    let graces = c .before .before .before .before .before .before .before .before .before .before .before .before .before .before .before .before .before .before .before .part-of2 in
-    let words = c .before .before .before .before .before .before .before .before .before .before .before .before .before .before .before .before .before .part-of3 in
-    let call = c .before .before .before .before .before .before .before .before .before .before .before .before .load-panel in
+    let order = c .before .before .before .before .before .before .before .before .before .before .before .before .before .before .before .before .before .before .part-of in
+    let graces = c .before .before .before .before .before .before .before .before .before .before .before .before .before .before .before .before .part-of2 in
+    let call = c .before .before .before .before .before .before .before .before .before .before .before .before .load-in-table in
     let p = c .before .before .before .before .before .before .put-part in
     let q = c .before .before .put-part2 in
-    table-call (λ (T : Table). loadedList T (now (a .list)) (a .grace) (a .clock)) (now (a .board))
-    (call .last .0) (call .last .1 .0) (call .last .1 .1 .0) (order .result) (graces .result) (words .result) (p .last .0) (q .last .0)
+    table-call (λ (T : Table). loadedList T (now (a .list)) (a .grace) (a .clock)) (now (a .board)) (order .result) (graces .result)
+    (call .last .0) (call .last .1 .0) (call .last .1 .1 .0) (p .last .0) (q .last .0)
     (s .pre) (call .kept .0) (call .kept .1 .0) (call .kept .1 .1 .0)
-    (order .ensures) (graces .ensures) (words .ensures) (call .ensures) (p .ensures) (q .ensures)
+    (order .ensures) (graces .ensures) (call .ensures) (p .ensures) (q .ensures)
 
 pub load-panel-spec : {M : Type 1} → statement M
 load-panel-spec =
@@ -69,14 +53,9 @@ load-panel-spec =
     (tie.spec
     part-of-requires
     part-of-requires-2
-    part-of-requires-3
-    sub-load-panel
-    part-load-panel-start
-    part-load-panel-end
-    slice-aggregate-load-panel
-    slice-aggregate-load-panel-2
-    slice-aggregate-load-panel-3
-    load-panel-requires
+    slice-aggregate-load-in-table
+    slice-aggregate-load-in-table-2
+    load-in-table-requires
     put-part-requires
     put-part-requires-2
     same-length

@@ -2,56 +2,45 @@
 use mathlib.Core.Path.{_∙_}
 use Prim.Native.Nat.{ℕ}
 use denote.Ref.{now}
-use lib.ListN.{replicate, length-replicate}
-use Rattle.board.proofs.PollLaws.{staled}
+use lib.ListN.{length-replicate}
+use Rattle.memory.specs.Lists.{listIn}
+use Rattle.board.specs.Board.{boardIn, staledIn}
+use Rattle.board.proofs.PollLaws.{told}
 use borrow.Author.Needs.{needs}
 use Rattle.board.proofs.polls.mark_stale.Statement.{statement}
 use Rattle.board.proofs.polls.mark_stale.Tie as tie
 
-sub-mark-stale : tie.Need-sub-mark-stale
-sub-mark-stale c = search needs
+slice-aggregate-stale-listed : tie.Need-slice-aggregate-stale-listed
+slice-aggregate-stale-listed c = search needs
 
-part-mark-stale-start : tie.Need-part-mark-stale-start
-part-mark-stale-start c = search needs
-
-part-mark-stale-end : tie.Need-part-mark-stale-end
-part-mark-stale-end c = search needs
-
-slice-aggregate-mark-stale : tie.Need-slice-aggregate-mark-stale
-slice-aggregate-mark-stale c = search needs
-
-mark-stale-requires : tie.Need-mark-stale-requires
-mark-stale-requires c κs = search needs
+stale-listed-requires : tie.Need-stale-listed-requires
+stale-listed-requires c κs = (c .before .before .before .before .pre, length-replicate {A = ℕ} 256 0)
 
 slice-aggregate-tell-changes : tie.Need-slice-aggregate-tell-changes
 slice-aggregate-tell-changes c = search needs
 
 tell-changes-requires : tie.Need-tell-changes-requires
-tell-changes-requires c κs = c .before .before .before .before .before .board .given .1 ∙ c .before .before .before .before .before .before .before .before .before .before .before .pre
+tell-changes-requires c κs = c .before .before .before .before .before .before .stale-listed .kept .0 ∙ c .before .before .before .before .before .before .before .before .before .before .before .pre
 
 same-length : tie.Need-same-length
-same-length c = search needs
+same-length c = c .before .before .before .before .before .before .before .before .before .stale-listed .kept .0
 
 same-length-2 : tie.Need-same-length-2
-same-length-2 c = search needs
+same-length-2 c = c .before .before .tell-changes .kept .1 .0
 
 returns : tie.Need-returns
 returns c =
     let s = c .before .before .before .before .before .before .before .before .before .before .before .before .before .before in
-    let m = c .before .before .before .before .before .before .before .before .before .mark-stale in
-    let told = c .before .before .tell-changes in
-    staled (now (s .args .board)) (m .last .0) (replicate 256 0) (m .last .1 .0) (now (s .args .out)) (told .last .1 .0) (told .result)
-    (s .pre) (m .kept .0) (length-replicate {A = ℕ} 256 0) (m .ensures .0) (m .ensures .1) (told .ensures .0) (told .ensures .1)
+    let m = c .before .before .before .before .before .before .before .before .before .stale-listed in
+    let t = c .before .before .tell-changes in
+    told (staledIn (boardIn (now (s .args .board)))) (boardIn (m .last .0)) (listIn (m .last .1 .0)) (now (s .args .out)) (t .last .1 .0) (t .result) (m .ensures) (t .ensures .0) (t .ensures .1)
 
 pub mark-stale-spec : {M : Type 1} → statement M
 mark-stale-spec =
     tie.close
     (tie.spec
-    sub-mark-stale
-    part-mark-stale-start
-    part-mark-stale-end
-    slice-aggregate-mark-stale
-    mark-stale-requires
+    slice-aggregate-stale-listed
+    stale-listed-requires
     slice-aggregate-tell-changes
     tell-changes-requires
     same-length

@@ -1,14 +1,7 @@
 -- `board::talks::ask_descriptions` meets its contract.
-use mathlib.Core.List.{List}
-use mathlib.Core.Path.{ap, _∙_}
-use Prim.Native.Nat.{ℕ}
+use mathlib.Core.Path.{_∙_}
 use native.Mathlib.Omega.{arith}
 use denote.Ref.{now}
-use Rattle.table.specs.Table.{tableIn}
-use Rattle.memory.specs.Lists.{room}
-use Rattle.rounds.specs.Room.{fitted}
-use Rattle.descriptions.specs.Descriptions.{askedTags}
-use Rattle.board.specs.Regions.{part}
 use Rattle.board.proofs.TalkLaws.{wants-used}
 use borrow.Author.Needs.{needs}
 use Rattle.board.proofs.talks.ask_descriptions.Statement.{statement}
@@ -32,6 +25,9 @@ slice-aggregate-list-asked c = search needs
 list-asked-requires : tie.Need-list-asked-requires
 list-asked-requires c κs = search needs
 
+put-part-requires : tie.Need-put-part-requires
+put-part-requires c κs = search needs
+
 sub-use-up : tie.Need-sub-use-up
 sub-use-up c = search needs
 
@@ -39,26 +35,22 @@ part-use-up-start : tie.Need-part-use-up-start
 part-use-up-start c = search needs
 
 part-use-up-end : tie.Need-part-use-up-end
-part-use-up-end c = search needs
+part-use-up-end c = omega (arith, c .before .before .put-part .kept .0, c .before .before .before .before .before .before .before .before .before .before .before .before .pre)
 
 use-up-requires : tie.Need-use-up-requires
 use-up-requires c κs = search needs
 
-put-part-requires : tie.Need-put-part-requires
-put-part-requires c κs = omega (arith, c .before .before .board2 .given .1, c .before .before .before .before .before .before .before .before .before .before .before .before .before .pre)
-
 same-length : tie.Need-same-length
-same-length c = c .before .before .put-part .kept .0 ∙ c .before .before .before .before .before .board2 .given .1
+same-length c = c .before .board3 .given .1 ∙ c .before .before .before .before .before .before .put-part .kept .0
 
 returns : tie.Need-returns
 returns c =
     let s = c .before .before .before .before .before .before .before .before .before .before .before .before .before .before .before .before in
-    let bs = now (s .args .board) in
     let copy = c .before .before .before .before .before .before .before .before .before .before .before .before .before .part-of in
     let list = c .before .before .before .before .before .before .before .before .before .list-asked in
-    let used = c .before .before .before .before .before .before .use-up in
-    let put = c .before .before .put-part in
-    wants-used bs (used .last .0) (copy .result) (list .last .1 .0) (put .last .0) (s .pre) (used .kept .0) (used .ensures) (copy .ensures) (list .kept .1 .0) (list .ensures) (put .ensures)
+    let put = c .before .before .before .before .before .before .put-part in
+    let used = c .before .before .use-up in
+    wants-used (now (s .args .board)) (copy .result) (list .last .1 .0) (put .last .0) (used .last .0) (s .pre) (copy .ensures) (list .kept .1 .0) (list .ensures) (put .kept .0) (put .ensures) (used .kept .0) (used .ensures)
 
 pub ask-descriptions-spec : {M : Type 1} → statement M
 ask-descriptions-spec =
@@ -70,10 +62,10 @@ ask-descriptions-spec =
     part-list-asked-end
     slice-aggregate-list-asked
     list-asked-requires
+    put-part-requires
     sub-use-up
     part-use-up-start
     part-use-up-end
     use-up-requires
-    put-part-requires
     same-length
     returns)
