@@ -8,40 +8,54 @@ use lib.ListN.{length}
 use Rattle.tiers.specs.Tiers.{Table, tabled}
 use Rattle.board.specs.Regions.{Regions, regionsIn, part, boardSize}
 use Rattle.board.specs.Board.{boardIn, boardOf, withTable}
-use Rattle.board.proofs.Laws.{part-length, putOrder, putGraces, putTable, put-order, put-graces, put-table}
+use Rattle.board.specs.Lending.{TableCall}
+use Rattle.board.proofs.Laws.{part-length, part-same, putOrder, putGraces, putTable, put-order, put-graces, put-table}
 
--- o1 and g1 are what the call made of the copies o0 and g0; w0 is a copy of the words
-pub table-call : (f : Table → Table) (bs t o g o1 g1 o0 g0 w0 : List ℕ)
-    → length bs ≡ boardSize
-    → length t ≡ length (part 7424 30720 bs)
-    → length o1 ≡ length o0 → length g1 ≡ length g0
-    → o ≡ o1 → g ≡ g1 → o0 ≡ part 256 256 bs → g0 ≡ part 512 256 bs → w0 ≡ part 1024 256 bs
-    → tabled t o1 g1 w0 ≡ f (tabled (part 7424 30720 bs) o0 g0 w0)
-    → boardIn (putMid 512 256 (putMid 256 256 (putMid 7424 30720 bs t) o) g) ≡ withTable (boardIn bs) (f (boardIn bs .table))
+-- the table lent and given back
+pub table-back : (bs t : List ℕ) → length bs ≡ boardSize → length t ≡ length (part 7424 30720 bs) → part 7424 30720 (putMid 7424 30720 bs t) ≡ t
+table-back bs t h k = part-same 7424 30720 bs t (omega (arith, h)) (k ∙ part-length 7424 30720 bs (omega (arith, h)))
+
+-- the call on the table in its place; w is a copy of the words
+pub called-on : (f : Table → Table) (bs t order graces order' graces' w : List ℕ)
+    → length bs ≡ boardSize → length t ≡ length (part 7424 30720 bs) → w ≡ part 1024 256 bs
+    → tabled t order' graces' w ≡ f (tabled (part 7424 30720 bs) order graces w)
+    → TableCall f bs order graces (putMid 7424 30720 bs t) order' graces'
+called-on f bs t order graces order' graces' w h k e call =
+    let same = table-back bs t h k in
+    record {
+      only = ap (λ (z : List ℕ). putMid 7424 30720 bs z) (sym same);
+      called =
+          ap (λ (z : List ℕ). tabled z order' graces' (part 1024 256 bs)) same
+          ∙ ap (λ (z : List ℕ). tabled t order' graces' z) (sym e)
+          ∙ call
+          ∙ ap (λ (z : List ℕ). f (tabled (part 7424 30720 bs) order graces z)) e;
+    }
+
+-- the order and the graces put back after it: b is the board after the call, b1 and b2 with each of them back
+pub table-call : (f : Table → Table) (bs order graces b order' graces' b1 b2 : List ℕ)
+    → length bs ≡ boardSize → length b ≡ length bs → length order' ≡ length order → length graces' ≡ length graces
+    → order ≡ part 256 256 bs → graces ≡ part 512 256 bs → TableCall f bs order graces b order' graces'
+    → b1 ≡ putMid 256 256 b order' → b2 ≡ putMid 512 256 b1 graces'
+    → boardIn b2 ≡ withTable (boardIn bs) (f (boardIn bs .table))
 unfolding boardIn boardOf regionsIn
-table-call f bs t o g o1 g1 o0 g0 w0 size lt lo lg eo eg co cg cw called =
-    let bs1 = putMid 7424 30720 bs t in
-    let bs2 = putMid 256 256 bs1 o in
-    let size1 : length bs1 ≡ boardSize = same-len-mid 7424 30720 bs t lt ∙ size in
-    let wide : length o ≡ 256 = ap length eo ∙ lo ∙ ap length co ∙ part-length 256 256 bs (omega (arith, size)) in
-    let wide2 : length g ≡ 256 = ap length eg ∙ lg ∙ ap length cg ∙ part-length 512 256 bs (omega (arith, size)) in
-    let size2 : length bs2 ≡ boardSize = same-len-mid 256 256 bs1 o (wide ∙ sym (part-length 256 256 bs1 (omega (arith, size1)))) ∙ size1 in
-    let whole : regionsIn (putMid 512 256 bs2 g) ≡ putGraces (putOrder (putTable (regionsIn bs) t) o) g =
-    put-graces bs2 g size2 wide2
-    ∙ ap (λ (R : Regions). putGraces R g) (put-order bs1 o size1 wide)
-    ∙ ap (λ (R : Regions). putGraces (putOrder R o) g) (put-table bs t size (lt ∙ part-length 7424 30720 bs (omega (arith, size))))
+table-call f bs order graces b order' graces' b1 b2 size same lo lg co cg call put put2 =
+    let t = part 7424 30720 b in
+    let size0 : length b ≡ boardSize = same ∙ size in
+    let wide : length order' ≡ 256 = lo ∙ ap length co ∙ part-length 256 256 bs (omega (arith, size)) in
+    let wide2 : length graces' ≡ 256 = lg ∙ ap length cg ∙ part-length 512 256 bs (omega (arith, size)) in
+    let c1 = putMid 256 256 b order' in
+    let size1 : length c1 ≡ boardSize = same-len-mid 256 256 b order' (wide ∙ sym (part-length 256 256 b (omega (arith, size0)))) ∙ size0 in
+    let whole : regionsIn b2 ≡ putGraces (putOrder (putTable (regionsIn bs) t) order') graces' =
+    ap regionsIn (put2 ∙ ap (λ (z : List ℕ). putMid 512 256 z graces') put)
+    ∙ put-graces c1 graces' size1 wide2
+    ∙ ap (λ (R : Regions). putGraces R graces') (put-order b order' size0 wide)
+    ∙ ap (λ (R : Regions). putGraces (putOrder R order') graces') (ap regionsIn (call .only) ∙ put-table bs t size (part-length 7424 30720 b (omega (arith, size0))))
     in
     let T = part 7424 30720 bs in
-    let O = part 256 256 bs in
-    let G = part 512 256 bs in
     let W = part 1024 256 bs in
-    let table : tabled t o g W ≡ f (tabled T O G W) =
-    ap (λ (x : List ℕ). tabled t x g W) eo
-    ∙ ap (λ (x : List ℕ). tabled t o1 x W) eg
-    ∙ ap (λ (x : List ℕ). tabled t o1 g1 x) (sym cw)
-    ∙ called
-    ∙ ap (λ (x : List ℕ). f (tabled T x g0 w0)) co
-    ∙ ap (λ (x : List ℕ). f (tabled T O x w0)) cg
-    ∙ ap (λ (x : List ℕ). f (tabled T O G x)) cw
+    let table : tabled t order' graces' W ≡ f (tabled T (part 256 256 bs) (part 512 256 bs) W) =
+    call .called
+    ∙ ap (λ (x : List ℕ). f (tabled T x graces W)) co
+    ∙ ap (λ (x : List ℕ). f (tabled T (part 256 256 bs) x W)) cg
     in
     ap (λ (R : Regions). boardOf R) whole ∙ ap (λ (x : Table). withTable (boardIn bs) x) table

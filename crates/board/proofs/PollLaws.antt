@@ -1,26 +1,32 @@
 -- The board after readings and after a round: the parts lent, and those copied out and put back.
 use mathlib.Core.Path.{_≡_, refl, ap, sym, _∙_}
-use mathlib.Core.List.{List}
+use mathlib.Core.Bool.{Bool}
+use mathlib.Core.List.{List, map}
 use Prim.Native.Nat.{ℕ, _+_, _-_, _/_, _≤_, min}
 use native.Mathlib.Omega.{arith}
 use borrow.Rule.Slice.PartMut.{putMid, same-len-mid}
 use lib.Ieee.{Float}
+use lib.IntN.{ℤ}
 use lib.ListN.{length}
 use Rattle.lists.specs.Sort.{byKeys}
 use Rattle.memory.specs.Halves.{halvesIn}
 use Rattle.memory.specs.Lists.{listIn, room}
 use Rattle.table.specs.Table.{tableIn}
 use Rattle.table.specs.declared.tag.Tag.{Tag}
-use Rattle.lent.specs.Lent.{records, wroteAll}
-use Rattle.lent.specs.Changes.{changeCells}
+use Rattle.lent.specs.Lent.{wroteAll}
+use Rattle.readings.specs.Listed.{Applying, AppliedAll, applyAll, inTagOrder}
+use Rattle.readings.specs.Stale.{tagStale, staledTags}
+use Rattle.rounds.specs.Room.{fitted}
 use Rattle.rounds.specs.Round.{Polling, Round, round}
 use Rattle.rounds.specs.Memory.{pollingIn, roomsIn, Worked as Rounded}
 use Rattle.rounds.specs.declared.tick.Options.{Options}
 use Rattle.rounds.specs.declared.tick.Cycle.{Cycle}
 use Rattle.rounds.specs.declared.round.CycleTags.{CycleTags}
 use Rattle.board.specs.Regions.{Regions, regionsIn, part, boardSize}
-use Rattle.board.specs.Board.{Board, Changing, Worked, boardIn, boardOf, withRecords, roundOf}
-use Rattle.board.proofs.Laws.{part-length, part-same, put-table, put-order, put-graces, put-asked, put-recorded, put-groups, putTable, putOrder, putGraces, putAsked, putRecorded, putGroups}
+use Rattle.board.specs.Board.{Board, Changed, Changing, Worked, boardIn, boardOf, withRecords, roundOf, appliedTo, staledIn, changesIn}
+use Rattle.board.specs.Lending.{Listed, roundOn, RoundCall}
+use Rattle.board.proofs.CallLaws.{table-back}
+use Rattle.board.proofs.Laws.{part-length, put-table, put-order, put-graces, put-asked, put-recorded, put-groups, putTable, putOrder, putGraces, putAsked, putRecorded, putGroups}
 
 -- a part has its width
 pub part-long : (a k : ℕ) (bs : List ℕ) → length bs ≡ boardSize → a + k ≤ boardSize → length (part a k bs) ≡ k
@@ -39,25 +45,59 @@ pub same-room : (xs ys : List ℕ) → length xs ≡ length ys → room xs ≡ r
 same-room xs ys e = ap (λ (n : ℕ). min (n / 2 - 1) 65535) e
 
 -- the table lent and given back
-pub tags-put : (bs t : List ℕ) → length bs ≡ boardSize → length t ≡ 30720 → boardIn (putMid 7424 30720 bs t) ≡ withRecords (boardIn bs) (tableIn t)
+pub tags-put : (bs t : List ℕ) → length bs ≡ boardSize → length t ≡ length (part 7424 30720 bs) → boardIn (putMid 7424 30720 bs t) ≡ withRecords (boardIn bs) (tableIn t)
 unfolding boardIn boardOf
-tags-put bs t h e = ap (λ (R : Regions). boardOf R) (put-table bs t h e)
+tags-put bs t h e = ap (λ (R : Regions). boardOf R) (put-table bs t h (e ∙ part-long 7424 30720 bs h (omega arith)))
 
--- The table lent, and the changes that were listed meanwhile written from it.
-pub changing : (bs t changes out : List ℕ) (tags : List Tag) (list : List ℕ) {out' : List ℕ} {r : ℕ}
-    → length bs ≡ boardSize → length t ≡ length (part 7424 30720 bs) → tableIn t ≡ tags → listIn changes ≡ list
-    → out' ≡ wroteAll out (records (changeCells (tableIn (part 7424 30720 (putMid 7424 30720 bs t)))) (listIn changes)) → r ≡ length (listIn changes)
-    → Changing (record { board = withRecords (boardIn bs) tags; changes = list }) r (boardIn (putMid 7424 30720 bs t)) out out'
-changing bs t changes out tags list h k e f w n =
-    let long : length t ≡ 30720 = k ∙ part-long 7424 30720 bs h (omega arith) in
+-- The changes that were listed are told.
+pub told : (C : Changed) (B' : Board) (list out out' : List ℕ) (r : ℕ)
+    → Listed C B' list → r ≡ length list → out' ≡ wroteAll out (changesIn B' list) → Changing C r B' out out'
+told C B' list out out' r l n w =
     record {
-      count-is = n ∙ ap (λ (l : List ℕ). length l) f;
-      board-is = tags-put bs t h long ∙ ap (λ (ts : List Tag). withRecords (boardIn bs) ts) e;
+      count-is = n ∙ ap (λ (z : List ℕ). length z) (l .list-is);
+      board-is = l .board-is;
       out-is =
           w
-          ∙ ap (λ (z : List ℕ). wroteAll out (records (changeCells (tableIn z)) (listIn changes))) (part-same 7424 30720 bs t (omega (arith, h)) long)
-          ∙ ap (λ (ts : List Tag). wroteAll out (records (changeCells ts) (listIn changes))) e
-          ∙ ap (λ (l : List ℕ). wroteAll out (records (changeCells tags) l)) f;
+          ∙ ap (λ (X : Board). wroteAll out (changesIn X list)) (l .board-is)
+          ∙ ap (λ (z : List ℕ). wroteAll out (changesIn (C .board) z)) (l .list-is);
+    }
+
+-- The readings applied. Both lists for them are as long as the part of the tags asked for.
+pub applied : (bs t asked sent changes changes' results : List ℕ) (start : Float) (u v : ℤ) (polled : Bool)
+    → length bs ≡ boardSize → length t ≡ length (part 7424 30720 bs) → asked ≡ part 1280 256 bs → length sent ≡ 256 → length changes ≡ 256 → u ≡ v
+    → AppliedAll (part 7424 30720 bs) sent changes asked results start u polled t changes'
+    → Listed (appliedTo (boardIn bs) results start v polled) (boardIn (putMid 7424 30720 bs t)) (listIn changes')
+unfolding boardIn boardOf regionsIn appliedTo
+applied bs t asked sent changes changes' results start u v polled h k i ls lc same m =
+    let list = part 1280 256 bs in
+    let tags = tableIn (part 7424 30720 bs) in
+    let wide : 256 ≡ length list = sym (part-long 1280 256 bs h (omega arith)) in
+    let all : applyAll (room sent) results start u polled (listIn asked) tags ≡ applyAll (room list) results start v polled (listIn list) tags =
+    ap (λ (z : ℤ). applyAll (room sent) results start z polled (listIn asked) tags) same
+    ∙ ap (λ (z : List ℕ). applyAll (room sent) results start v polled (listIn z) tags) i
+    ∙ ap (λ (z : ℕ). applyAll z results start v polled (listIn list) tags) (same-room sent list (ls ∙ wide))
+    in
+    let A = applyAll (room list) results start v polled (listIn list) tags in
+    record {
+      board-is = tags-put bs t h k ∙ ap (λ (ts : List Tag). withRecords (boardIn bs) ts) (m .tabled ∙ ap (λ (S : Applying). S .tags) all);
+      list-is =
+          m .changed
+          ∙ ap (λ (S : Applying). fitted (room changes) (inTagOrder tags (S .sent))) all
+          ∙ ap (λ (z : ℕ). fitted z (inTagOrder tags (A .sent))) (same-room changes list (lc ∙ wide));
+    }
+
+-- The cached entries made stale; the list likewise.
+pub staled : (bs t changes changes' : List ℕ)
+    → length bs ≡ boardSize → length t ≡ length (part 7424 30720 bs) → length changes ≡ 256
+    → tableIn t ≡ map tagStale (tableIn (part 7424 30720 bs)) → listIn changes' ≡ fitted (room changes) (staledTags (tableIn (part 7424 30720 bs)))
+    → Listed (staledIn (boardIn bs)) (boardIn (putMid 7424 30720 bs t)) (listIn changes')
+unfolding boardIn boardOf regionsIn staledIn
+staled bs t changes changes' h k l e f =
+    let list = part 1280 256 bs in
+    let tags = tableIn (part 7424 30720 bs) in
+    record {
+      board-is = tags-put bs t h k ∙ ap (λ (ts : List Tag). withRecords (boardIn bs) ts) e;
+      list-is = f ∙ ap (λ (z : ℕ). fitted z (staledTags tags)) (same-room changes list (l ∙ sym (part-long 1280 256 bs h (omega arith))));
     }
 
 -- ---- a round: the table lent, and five parts put back after it
@@ -111,61 +151,115 @@ all-put bs t order graces asked recorded groups h l =
     ∙ ap (λ (R : Regions). putGroups (putRecorded (putAsked (putGraces R graces) asked) recorded) groups) (put-order b0 order h0 (l .order-long))
     ∙ ap (λ (R : Regions). putGroups (putRecorded (putAsked (putGraces (putOrder R order) graces) asked) recorded) groups) (put-table bs t h (l .table-long))
 
+-- The round on the table in its place; keys and words are copies.
+pub rounded-on : (bs t order graces groups recorded asked order' graces' groups' recorded' asked' keys words sorted wanted wanted' : List ℕ) (o : Options) (c : Cycle) (clock : Float) (r : CycleTags)
+    → length bs ≡ boardSize → length t ≡ length (part 7424 30720 bs) → keys ≡ part 768 256 bs → words ≡ part 1024 256 bs
+    → length asked ≡ 256 → length sorted ≡ 256 → length wanted ≡ 256
+    → Rounded (round (byKeys (halvesIn keys)) (roomsIn sorted wanted asked) o (pollingIn (part 7424 30720 bs) order graces words groups recorded c) clock)
+    (r .tick) (r .boundary) (listIn wanted') (listIn asked') (pollingIn t order' graces' words groups' recorded' (r .cycle))
+    → RoundCall (roundOn bs order graces groups recorded asked o c clock) r bs (putMid 7424 30720 bs t) order' graces' groups' recorded' asked'
+rounded-on bs t order graces groups recorded asked order' graces' groups' recorded' asked' keys words sorted wanted wanted' o c clock r h k ek ew la ls lw w =
+    let R0 = round (byKeys (halvesIn keys)) (roomsIn sorted wanted asked) o (pollingIn (part 7424 30720 bs) order graces words groups recorded c) clock in
+    let same : R0 ≡ roundOn bs order graces groups recorded asked o c clock =
+    rw (same-room sorted asked (ls ∙ sym la), same-room wanted asked (lw ∙ sym la), ek, ew) refl
+    in
+    let back = table-back bs t h k in
+    record {
+      only = ap (λ (z : List ℕ). putMid 7424 30720 bs z) (sym back);
+      rounded = record {
+        tick-is = w .tick-is ∙ ap (λ (Q : Round). Q .tick) same;
+        boundary-is = w .boundary-is ∙ ap (λ (Q : Round). Q .boundary) same;
+        wanted-is = refl;
+        list-is = w .list-is ∙ ap (λ (Q : Round). Q .list) same;
+        after-is =
+            ap (λ (z : List ℕ). pollingIn z order' graces' (part 1024 256 bs) groups' recorded' (r .cycle)) back
+            ∙ ap (λ (z : List ℕ). pollingIn t order' graces' z groups' recorded' (r .cycle)) (sym ew)
+            ∙ w .after-is
+            ∙ ap (λ (Q : Round). Q .after) same;
+      };
+    }
+
 -- What a round was given, in copies of the parts.
-pub record Copies (bs order graces keys words asked recorded groups : List ℕ) : Type 0 where
+pub record Copies (bs order graces asked recorded groups : List ℕ) : Type 0 where
   pub order-is : order ≡ part 256 256 bs
   pub graces-is : graces ≡ part 512 256 bs
-  pub keys-is : keys ≡ part 768 256 bs
-  pub words-is : words ≡ part 1024 256 bs
   pub asked-is : asked ≡ part 1280 256 bs
   pub recorded-is : recorded ≡ part 1536 256 bs
   pub groups-is : groups ≡ part 3328 4096 bs
 
--- it is the round of the board, where the other two lists are as long as the one asked for
-pub same-round : {bs order graces keys words asked recorded groups : List ℕ} (sorted wanted : List ℕ) (o : Options) (c : Cycle) (clock : Float)
-    → Copies bs order graces keys words asked recorded groups → length sorted ≡ length (part 1280 256 bs) → length wanted ≡ length (part 1280 256 bs)
-    → round (byKeys (halvesIn keys)) (roomsIn sorted wanted asked) o (pollingIn (part 7424 30720 bs) order graces words groups recorded c) clock ≡ roundOf (boardIn bs) o c clock
+-- it is the round of the board
+same-round : {bs order graces asked recorded groups : List ℕ} (o : Options) (c : Cycle) (clock : Float) → Copies bs order graces asked recorded groups
+    → roundOn bs order graces groups recorded asked o c clock ≡ roundOf (boardIn bs) o c clock
 unfolding boardIn boardOf regionsIn
-same-round {bs} sorted wanted o c clock p s w =
-    rw (same-room sorted (part 1280 256 bs) s, same-room wanted (part 1280 256 bs) w, p .order-is, p .graces-is, p .keys-is, p .words-is, p .asked-is, p .recorded-is, p .groups-is) refl
+same-round o c clock p = rw (p .order-is, p .graces-is, p .asked-is, p .recorded-is, p .groups-is) refl
 
--- what is put back is what the round left
-pub record PutBack (order graces asked recorded groups order' graces' asked' recorded' groups' : List ℕ) : Type 0 where
-  pub order-back : order' ≡ order
-  pub graces-back : graces' ≡ graces
-  pub asked-back : asked' ≡ asked
-  pub recorded-back : recorded' ≡ recorded
-  pub groups-back : groups' ≡ groups
+-- what the round left is as long as what it was given
+pub record Kept (order graces asked recorded groups order' graces' asked' recorded' groups' : List ℕ) : Type 0 where
+  pub order-kept : length order' ≡ length order
+  pub graces-kept : length graces' ≡ length graces
+  pub asked-kept : length asked' ≡ length asked
+  pub recorded-kept : length recorded' ≡ length recorded
+  pub groups-kept : length groups' ≡ length groups
+
+long-kept : {bs order graces asked recorded groups order' graces' asked' recorded' groups' : List ℕ} (t : List ℕ)
+    → length bs ≡ boardSize → length t ≡ 30720 → Copies bs order graces asked recorded groups
+    → Kept order graces asked recorded groups order' graces' asked' recorded' groups' → Long t order' graces' asked' recorded' groups'
+long-kept {bs} t h k p l =
+    record {
+      table-long = k;
+      order-long = l .order-kept ∙ ap (λ (z : List ℕ). length z) (p .order-is) ∙ part-long 256 256 bs h (omega arith);
+      graces-long = l .graces-kept ∙ ap (λ (z : List ℕ). length z) (p .graces-is) ∙ part-long 512 256 bs h (omega arith);
+      asked-long = l .asked-kept ∙ ap (λ (z : List ℕ). length z) (p .asked-is) ∙ part-long 1280 256 bs h (omega arith);
+      recorded-long = l .recorded-kept ∙ ap (λ (z : List ℕ). length z) (p .recorded-is) ∙ part-long 1536 256 bs h (omega arith);
+      groups-long = l .groups-kept ∙ ap (λ (z : List ℕ). length z) (p .groups-is) ∙ part-long 3328 4096 bs h (omega arith);
+    }
+
+-- the boards while one part after the other is put back
+pub record PutBack (b order graces asked recorded groups b1 b2 b3 b4 b5 : List ℕ) : Type 0 where
+  pub order-put : b1 ≡ putMid 256 256 b order
+  pub graces-put : b2 ≡ putMid 512 256 b1 graces
+  pub asked-put : b3 ≡ putMid 1280 256 b2 asked
+  pub recorded-put : b4 ≡ putMid 1536 256 b3 recorded
+  pub groups-put : b5 ≡ putMid 3328 4096 b4 groups
+
+all-back : (bs t : List ℕ) {b order graces asked recorded groups b1 b2 b3 b4 b5 : List ℕ} → b ≡ putMid 7424 30720 bs t → PutBack b order graces asked recorded groups b1 b2 b3 b4 b5
+    → b5 ≡ groupsBack bs t order graces asked recorded groups
+all-back bs t {b} {order} {graces} {asked} {recorded} {groups} e p =
+    p .groups-put
+    ∙ ap (λ (z : List ℕ). putMid 3328 4096 z groups) (p .recorded-put)
+    ∙ ap (λ (z : List ℕ). putMid 3328 4096 (putMid 1536 256 z recorded) groups) (p .asked-put)
+    ∙ ap (λ (z : List ℕ). putMid 3328 4096 (putMid 1536 256 (putMid 1280 256 z asked) recorded) groups) (p .graces-put)
+    ∙ ap (λ (z : List ℕ). putMid 3328 4096 (putMid 1536 256 (putMid 1280 256 (putMid 512 256 z graces) asked) recorded) groups) (p .order-put)
+    ∙ ap (λ (z : List ℕ). putMid 3328 4096 (putMid 1536 256 (putMid 1280 256 (putMid 512 256 (putMid 256 256 z order) graces) asked) recorded) groups) e
 
 abbrev polledTo : Board → ℕ → Polling → List ℕ → Board
 polledTo B n P list = record { table = P .table; groups = P .groups; keys = B .keys; configured = B .configured; queue = B .queue; queueRoom = B .queueRoom; asked = list; askedRoom = n; back = B .back }
 
 -- The board with the parts of a round put back is the one of the round.
-pub polled : (bs t : List ℕ) {order graces words asked recorded groups order' graces' asked' recorded' groups' wanted : List ℕ} {r : CycleTags} {R : Round} (S : Round)
-    → length bs ≡ boardSize → Long t order' graces' asked' recorded' groups' → PutBack order graces asked recorded groups order' graces' asked' recorded' groups' → words ≡ part 1024 256 bs
-    → Rounded R (r .tick) (r .boundary) wanted (listIn asked) (pollingIn t order graces words groups recorded (r .cycle)) → R ≡ S
-    → Worked (boardIn bs) S r (boardIn (groupsBack bs t order' graces' asked' recorded' groups'))
+pub polled : {bs order graces asked recorded groups order' graces' asked' recorded' groups' b b1 b2 b3 b4 b5 : List ℕ} (o : Options) (c : Cycle) (clock : Float) (r : CycleTags)
+    → length bs ≡ boardSize → length b ≡ length bs → Copies bs order graces asked recorded groups → Kept order graces asked recorded groups order' graces' asked' recorded' groups'
+    → RoundCall (roundOn bs order graces groups recorded asked o c clock) r bs b order' graces' groups' recorded' asked'
+    → PutBack b order' graces' asked' recorded' groups' b1 b2 b3 b4 b5
+    → Worked (boardIn bs) (roundOf (boardIn bs) o c clock) r (boardIn b5)
 unfolding boardIn boardOf regionsIn
-polled bs t {order} {graces} {words} {asked} {recorded} {groups} {order'} {graces'} {asked'} {recorded'} {groups'} {wanted} {r} {R} S h l p ws w same =
+polled {bs} {order} {graces} {asked} {recorded} {groups} {order'} {graces'} {asked'} {recorded'} {groups'} {b} o c clock r h k p l call q =
     let B = boardIn bs in
-    let after : pollingIn t order' graces' (part 1024 256 bs) groups' recorded' (r .cycle) ≡ S .after =
-    ap (λ (z : List ℕ). pollingIn t order' graces' z groups' recorded' (r .cycle)) (sym ws)
-    ∙ ap (λ (z : List ℕ). pollingIn t z graces' words groups' recorded' (r .cycle)) (p .order-back)
-    ∙ ap (λ (z : List ℕ). pollingIn t order z words groups' recorded' (r .cycle)) (p .graces-back)
-    ∙ ap (λ (z : List ℕ). pollingIn t order graces words z recorded' (r .cycle)) (p .groups-back)
-    ∙ ap (λ (z : List ℕ). pollingIn t order graces words groups z (r .cycle)) (p .recorded-back)
-    ∙ w .after-is
-    ∙ ap (λ (Q : Round). Q .after) same
-    in
-    let list : listIn asked' ≡ S .list = ap (λ (z : List ℕ). listIn z) (p .asked-back) ∙ w .list-is ∙ ap (λ (Q : Round). Q .list) same in
-    let free : room asked' ≡ B .askedRoom = same-room asked' (part 1280 256 bs) (l .asked-long ∙ sym (part-long 1280 256 bs h (omega arith))) in
+    let S = roundOf B o c clock in
+    let t = part 7424 30720 b in
+    let w = call .rounded in
+    let same = same-round o c clock p in
+    let long = long-kept t h (part-long 7424 30720 b (k ∙ h) (omega arith)) p l in
+    let after : pollingIn t order' graces' (part 1024 256 bs) groups' recorded' (r .cycle) ≡ S .after = w .after-is ∙ ap (λ (Q : Round). Q .after) same in
+    let tags : listIn asked' ≡ S .list = w .list-is ∙ ap (λ (Q : Round). Q .list) same in
+    let free : room asked' ≡ B .askedRoom = same-room asked' (part 1280 256 bs) (long .asked-long ∙ sym (part-long 1280 256 bs h (omega arith))) in
     record {
       tick-is = w .tick-is ∙ ap (λ (Q : Round). Q .tick) same;
       boundary-is = w .boundary-is ∙ ap (λ (Q : Round). Q .boundary) same;
       cycle-is = ap (λ (P : Polling). P .cycle) after;
       board-is =
-          ap (λ (Q : Regions). boardOf Q) (all-put bs t order' graces' asked' recorded' groups' h l)
+          ap (λ (z : List ℕ). boardOf (regionsIn z)) (all-back bs t (call .only) q)
+          ∙ ap (λ (Q : Regions). boardOf Q) (all-put bs t order' graces' asked' recorded' groups' h long)
           ∙ ap (λ (n : ℕ). polledTo B n (pollingIn t order' graces' (part 1024 256 bs) groups' recorded' (r .cycle)) (listIn asked')) free
           ∙ ap (λ (P : Polling). polledTo B (B .askedRoom) P (listIn asked')) after
-          ∙ ap (λ (z : List ℕ). polledTo B (B .askedRoom) (S .after) z) list;
+          ∙ ap (λ (z : List ℕ). polledTo B (B .askedRoom) (S .after) z) tags;
     }

@@ -87,12 +87,19 @@ back-kept bs y z results h e i f j =
     back-put (putMid 1280 256 bs y) z (same-len-mid 1280 256 bs y e ∙ h) new f (j ∙ ap (λ (o : List ℕ). overBytes o results) same)
     ∙ ap (λ (B : Board). withBack B new) (asked-put bs y h (take (resultCount results) (listIn (part 1280 256 bs))) e i)
 
-pub wants-used : (bs t y : List ℕ) → length bs ≡ boardSize
-    → length t ≡ length (part 7424 30720 bs) → tableIn t ≡ map unwanted (tableIn (part 7424 30720 bs))
-    → length y ≡ length (part 1280 256 (putMid 7424 30720 bs t)) → listIn y ≡ fitted (room (part 1280 256 bs)) (askedTags (tableIn (part 7424 30720 bs)))
-    → boardIn (putMid 1280 256 (putMid 7424 30720 bs t) y) ≡ describing (boardIn bs)
+-- y is what the wants made of the copy y0 of the list asked for, b the board with it back
+pub wants-used : (bs y0 y b t : List ℕ) → length bs ≡ boardSize
+    → y0 ≡ part 1280 256 bs → length y ≡ length y0 → listIn y ≡ fitted (room y0) (askedTags (tableIn (part 7424 30720 bs)))
+    → length b ≡ length bs → b ≡ putMid 1280 256 bs y
+    → length t ≡ length (part 7424 30720 b) → tableIn t ≡ map unwanted (tableIn (part 7424 30720 b))
+    → boardIn (putMid 7424 30720 b t) ≡ describing (boardIn bs)
 unfolding boardIn boardOf regionsIn
-wants-used bs t y h e i f j =
-    let list = fitted (room (part 1280 256 bs)) (askedTags (tableIn (part 7424 30720 bs))) in
-    asked-put (putMid 7424 30720 bs t) y (same-len-mid 7424 30720 bs t e ∙ h) list f j
-    ∙ ap (λ (B : Board). withAsked B list) (records-put bs t h (map unwanted (tableIn (part 7424 30720 bs))) e i)
+wants-used bs y0 y b t h c f j k put e i =
+    let tags = askedTags (tableIn (part 7424 30720 bs)) in
+    let list = fitted (room (part 1280 256 bs)) tags in
+    let asked : boardIn b ≡ withAsked (boardIn bs) list =
+    ap (λ (z : List ℕ). boardOf (regionsIn z)) put
+    ∙ asked-put bs y h list (f ∙ ap (λ (z : List ℕ). length z) c) (j ∙ ap (λ (z : List ℕ). fitted (room z) tags) c)
+    in
+    records-put b t (k ∙ h) (map unwanted (tableIn (part 7424 30720 b))) e i
+    ∙ ap (λ (B : Board). withRecords B (map unwanted (B .table .tags))) asked

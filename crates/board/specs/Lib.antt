@@ -2,3 +2,4 @@
 pub mod Regions
 pub mod Board
 pub mod Creation
+pub mod Lending

@@ -5,29 +5,69 @@ ghost use Rattle.tiers.specs.Tiers.{setTier};
 ghost use Rattle.panel.specs.Panel.{loadedList};
 ghost use Rattle.board.specs.Regions.{boardSize};
 ghost use Rattle.board.specs.Board.{boardIn, withTable};
-use super::parts::copied;
-use super::parts::put_back;
+ghost use Rattle.board.specs.Lending.{TableCall};
+use super::parts::part_of;
+use super::parts::put_part;
 
-// Rule 5: a tier call.
-pub fn set_tier(board: &mut [u8], k: u16, tier: u8, grace: f64, clock: f64)
+// The call on the table in its place, and on copies of the order and of the graces.
+fn set_in_table(
+    board: &mut [u8],
+    order: &mut [u8],
+    graces: &mut [u8],
+    k: u16,
+    tier: u8,
+    grace: f64,
+    clock: f64,
+)
     requires { ⌜ length (now board) ≡ boardSize ⌝ }
-    ensures { λ _. ⌜ boardIn (now (board .exit)) ≡ withTable (boardIn (now (board .entry))) (setTier (boardIn (now (board .entry)) .table) k tier grace clock) ⌝ }
+    ensures { λ _. ⌜ TableCall (λ T. setTier T k tier grace clock) (now (board .entry)) (now (order .entry)) (now (graces .entry)) (now (board .exit)) (now (order .exit)) (now (graces .exit)) ⌝ }
 {
-    let mut order = copied(&board[256..512]);
-    let mut graces = copied(&board[512..768]);
-    let words = copied(&board[1024..1280]);
+    let words = part_of(board, 1024);
     tiers::grace::set_tier(
         &mut board[7424..38144],
-        &mut order,
-        &mut graces,
+        order,
+        graces,
         &words,
         k,
         tier,
         grace,
         clock,
     );
-    put_back(&mut board[256..512], order);
-    put_back(&mut board[512..768], graces);
+}
+
+// Rule 5: a tier call.
+pub fn set_tier(board: &mut [u8], k: u16, tier: u8, grace: f64, clock: f64)
+    requires { ⌜ length (now board) ≡ boardSize ⌝ }
+    ensures { λ _. ⌜ boardIn (now (board .exit)) ≡ withTable (boardIn (now (board .entry))) (setTier (boardIn (now (board .entry)) .table) k tier grace clock) ⌝ }
+{
+    let mut order = part_of(board, 256);
+    let mut graces = part_of(board, 512);
+    set_in_table(board, &mut order, &mut graces, k, tier, grace, clock);
+    put_part(board, 256, order);
+    put_part(board, 512, graces);
+}
+
+fn load_in_table(
+    board: &mut [u8],
+    order: &mut [u8],
+    graces: &mut [u8],
+    list: &[u8],
+    grace: f64,
+    clock: f64,
+)
+    requires { ⌜ length (now board) ≡ boardSize ⌝ }
+    ensures { λ _. ⌜ TableCall (λ T. loadedList T (now (list .entry)) grace clock) (now (board .entry)) (now (order .entry)) (now (graces .entry)) (now (board .exit)) (now (order .exit)) (now (graces .exit)) ⌝ }
+{
+    let words = part_of(board, 1024);
+    panel::load::load_panel(
+        &mut board[7424..38144],
+        order,
+        graces,
+        &words,
+        list,
+        grace,
+        clock,
+    );
 }
 
 // Rule 11: a panel list loaded.
@@ -35,20 +75,11 @@ pub fn load_panel(board: &mut [u8], list: &[u8], grace: f64, clock: f64)
     requires { ⌜ length (now board) ≡ boardSize ⌝ }
     ensures { λ _. ⌜ boardIn (now (board .exit)) ≡ withTable (boardIn (now (board .entry))) (loadedList (boardIn (now (board .entry)) .table) (now (list .entry)) grace clock) ⌝ }
 {
-    let mut new_order = copied(&board[256..512]);
-    let mut new_graces = copied(&board[512..768]);
-    let words = copied(&board[1024..1280]);
-    panel::load::load_panel(
-        &mut board[7424..38144],
-        &mut new_order,
-        &mut new_graces,
-        &words,
-        list,
-        grace,
-        clock,
-    );
-    put_back(&mut board[256..512], new_order);
-    put_back(&mut board[512..768], new_graces);
+    let mut order = part_of(board, 256);
+    let mut graces = part_of(board, 512);
+    load_in_table(board, &mut order, &mut graces, list, grace, clock);
+    put_part(board, 256, order);
+    put_part(board, 512, graces);
 }
 
 // How many tags are in a tier.

@@ -4,7 +4,7 @@ ghost use lib.ListN.{length, replicate};
 ghost use Rattle.board.specs.Regions.{boardSize};
 ghost use Rattle.board.specs.Board.{boardIn};
 ghost use Rattle.board.specs.Creation.{freshBoard};
-use super::parts::copied;
+use super::parts::part_of;
 use ranks::fill_keys;
 use ranks::fill_words;
 use settings::configured::keep_configured;
@@ -35,6 +35,6 @@ pub fn create<'a>(
     fill_keys(names, ends, &mut board[768..1024]);
     fill_words(names, ends, &mut board[1024..1280]);
     keep_configured(&mut board[1792..2304], groups);
-    let words = copied(&board[1024..1280]);
+    let words = part_of(board, 1024);
     take_all(&mut board[7424..38144], &words, settings, false);
 }

@@ -1,11 +1,15 @@
-// A part of 256 bytes, copied out of its place and back.
+// Parts of the board, copied out of their places and back. A part is cut out of the board here and nowhere else, as each
+// cut makes the proof of the function that writes it slow.
 ghost use mathlib.Core.Path.{_≡_};
+ghost use Prim.Native.Nat.{_+_, _≤_};
 ghost use lib.ListN.{length, take};
+ghost use borrow.Rule.Slice.PartMut.{putMid};
 ghost use Rattle.memory.specs.Lists.{listIn};
+ghost use Rattle.board.specs.Regions.{part, boardSize};
 use memory::halves::put_half;
 use memory::tags::count;
 
-pub fn copied(s: &[u8]) -> [u8; 256]
+fn copied(s: &[u8]) -> [u8; 256]
     requires { ⌜ length (now s) ≡ 256 ⌝ }
     ensures { λ r. ⌜ r ≡ now (s .entry) ⌝ }
 {
@@ -18,7 +22,7 @@ pub fn copied(s: &[u8]) -> [u8; 256]
     w
 }
 
-pub fn put_back(s: &mut [u8], w: [u8; 256])
+fn put_back(s: &mut [u8], w: [u8; 256])
     requires { ⌜ length (now s) ≡ 256 ⌝ }
     ensures { λ _. ⌜ now (s .exit) ≡ w ⌝ }
 {
@@ -29,8 +33,23 @@ pub fn put_back(s: &mut [u8], w: [u8; 256])
     }
 }
 
+// The part of 256 bytes from `at` on.
+pub fn part_of(board: &[u8], at: usize) -> [u8; 256]
+    requires { ⌜ at + 256 ≤ length (now board) ⌝ }
+    ensures { λ r. ⌜ r ≡ part at 256 (now (board .entry)) ⌝ }
+{
+    copied(&board[at..at + 256])
+}
+
+pub fn put_part(board: &mut [u8], at: usize, w: [u8; 256])
+    requires { ⌜ at + 256 ≤ length (now board) ⌝ }
+    ensures { λ _. ⌜ now (board .exit) ≡ putMid at 256 (now (board .entry)) w ⌝ }
+{
+    put_back(&mut board[at..at + 256], w);
+}
+
 // The same for the groups, a row of 256 bytes for each of 16.
-pub fn groups_copied(s: &[u8]) -> [u8; 4096]
+fn groups_copied(s: &[u8]) -> [u8; 4096]
     requires { ⌜ length (now s) ≡ 4096 ⌝ }
     ensures { λ r. ⌜ r ≡ now (s .entry) ⌝ }
 {
@@ -43,7 +62,7 @@ pub fn groups_copied(s: &[u8]) -> [u8; 4096]
     w
 }
 
-pub fn put_groups_back(s: &mut [u8], w: [u8; 4096])
+fn put_groups_back(s: &mut [u8], w: [u8; 4096])
     requires { ⌜ length (now s) ≡ 4096 ⌝ }
     ensures { λ _. ⌜ now (s .exit) ≡ w ⌝ }
 {
@@ -52,6 +71,20 @@ pub fn put_groups_back(s: &mut [u8], w: [u8; 4096])
         s[i] = w[i];
         i += 1;
     }
+}
+
+pub fn groups_of(board: &[u8]) -> [u8; 4096]
+    requires { ⌜ length (now board) ≡ boardSize ⌝ }
+    ensures { λ r. ⌜ r ≡ part 3328 4096 (now (board .entry)) ⌝ }
+{
+    groups_copied(&board[3328..7424])
+}
+
+pub fn put_groups(board: &mut [u8], w: [u8; 4096])
+    requires { ⌜ length (now board) ≡ boardSize ⌝ }
+    ensures { λ _. ⌜ now (board .exit) ≡ putMid 3328 4096 (now (board .entry)) w ⌝ }
+{
+    put_groups_back(&mut board[3328..7424], w);
 }
 
 // The first n tags of a list.

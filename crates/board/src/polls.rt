@@ -2,13 +2,15 @@
 ghost use mathlib.Core.Bool.{true, false};
 ghost use mathlib.Core.Path.{_≡_};
 ghost use lib.ListN.{length};
+ghost use Rattle.memory.specs.Lists.{listIn};
 ghost use Rattle.lent.specs.Lent.{wroteAll};
 ghost use Rattle.board.specs.Regions.{boardSize};
-ghost use Rattle.board.specs.Board.{boardIn, roundOf, appliedTo, staledIn, Worked, Changing};
-use super::parts::copied;
-use super::parts::groups_copied;
-use super::parts::put_back;
-use super::parts::put_groups_back;
+ghost use Rattle.board.specs.Lending.{roundOn, RoundCall, Listed};
+ghost use Rattle.board.specs.Board.{boardIn, roundOf, appliedTo, staledIn, changesIn, Worked, Changing};
+use super::parts::groups_of;
+use super::parts::part_of;
+use super::parts::put_groups;
+use super::parts::put_part;
 use engine::Engine;
 use lent::changes::put_changes;
 use memory::tags::count;
@@ -17,41 +19,109 @@ use rounds::round::cycle_tags;
 use rounds::tick::Cycle;
 use rounds::tick::Options;
 
+// The round on the table in its place, and on copies of the other parts.
+fn poll_table(
+    board: &mut [u8],
+    order: &mut [u8],
+    graces: &mut [u8],
+    groups: &mut [u8],
+    recorded: &mut [u8],
+    asked: &mut [u8],
+    o: Options,
+    c: Cycle,
+    clock: f64,
+) -> CycleTags
+    requires { ⌜ length (now board) ≡ boardSize ⌝ }
+    requires { ⌜ length (now asked) ≡ 256 ⌝ }
+    ensures { λ r. ⌜ RoundCall
+        (roundOn (now (board .entry)) (now (order .entry)) (now (graces .entry)) (now (groups .entry)) (now (recorded .entry)) (now (asked .entry)) o c clock)
+        r (now (board .entry)) (now (board .exit)) (now (order .exit)) (now (graces .exit)) (now (groups .exit)) (now (recorded .exit)) (now (asked .exit)) ⌝ }
+{
+    let keys = part_of(board, 768);
+    let words = part_of(board, 1024);
+    let mut sorted = [0u8; 256];
+    let mut wanted = [0u8; 256];
+    cycle_tags(
+        &mut board[7424..38144],
+        order,
+        graces,
+        &words,
+        &keys,
+        groups,
+        recorded,
+        &mut sorted,
+        &mut wanted,
+        asked,
+        o,
+        c,
+        clock,
+    )
+}
+
 // Rule 6: a round; the tags to read are those asked for.
 pub fn poll(board: &mut [u8], o: Options, c: Cycle, clock: f64) -> CycleTags
     requires { ⌜ length (now board) ≡ boardSize ⌝ }
     ensures { λ r. ⌜ Worked (boardIn (now (board .entry))) (roundOf (boardIn (now (board .entry))) o c clock) r (boardIn (now (board .exit))) ⌝ }
 {
-    let mut order = copied(&board[256..512]);
-    let mut graces = copied(&board[512..768]);
-    let keys = copied(&board[768..1024]);
-    let words = copied(&board[1024..1280]);
-    let mut asked = copied(&board[1280..1536]);
-    let mut recorded = copied(&board[1536..1792]);
-    let mut groups = groups_copied(&board[3328..7424]);
-    let mut sorted = [0u8; 256];
-    let mut wanted = [0u8; 256];
-    let r = cycle_tags(
-        &mut board[7424..38144],
+    let mut order = part_of(board, 256);
+    let mut graces = part_of(board, 512);
+    let mut asked = part_of(board, 1280);
+    let mut recorded = part_of(board, 1536);
+    let mut groups = groups_of(board);
+    let r = poll_table(
+        board,
         &mut order,
         &mut graces,
-        &words,
-        &keys,
         &mut groups,
         &mut recorded,
-        &mut sorted,
-        &mut wanted,
         &mut asked,
         o,
         c,
         clock,
     );
-    put_back(&mut board[256..512], order);
-    put_back(&mut board[512..768], graces);
-    put_back(&mut board[1280..1536], asked);
-    put_back(&mut board[1536..1792], recorded);
-    put_groups_back(&mut board[3328..7424], groups);
+    put_part(board, 256, order);
+    put_part(board, 512, graces);
+    put_part(board, 1280, asked);
+    put_part(board, 1536, recorded);
+    put_groups(board, groups);
     r
+}
+
+// The changes listed, into `out`, and how many they are.
+fn tell_changes(board: &[u8], out: &mut [u8], changes: &[u8]) -> usize
+    requires { ⌜ length (now board) ≡ boardSize ⌝ }
+    ensures { λ r. ⌜ r ≡ length (listIn (now (changes .entry))) ⌝ }
+    ensures { λ _. ⌜ now (out .exit) ≡ wroteAll (now (out .entry)) (changesIn (boardIn (now (board .entry))) (listIn (now (changes .entry)))) ⌝ }
+{
+    put_changes(out, &board[7424..38144], changes);
+    count(changes)
+}
+
+// The readings on the table in its place; the changes are listed.
+fn apply_listed(
+    board: &mut [u8],
+    changes: &mut [u8],
+    results: &[u8],
+    start: f64,
+    t: i64,
+    polled: bool,
+)
+    requires { ⌜ length (now board) ≡ boardSize ⌝ }
+    requires { ⌜ length (now changes) ≡ 256 ⌝ }
+    ensures { λ _. ⌜ Listed (appliedTo (boardIn (now (board .entry))) (now (results .entry)) start t polled) (boardIn (now (board .exit))) (listIn (now (changes .exit))) ⌝ }
+{
+    let asked = part_of(board, 1280);
+    let mut sent = [0u8; 256];
+    readings::listed::apply(
+        &mut board[7424..38144],
+        &mut sent,
+        changes,
+        &asked,
+        results,
+        start,
+        t,
+        polled,
+    );
 }
 
 // Rule 7: the readings of the tags asked for; the changes go into `out`.
@@ -66,21 +136,9 @@ pub fn apply(
     requires { ⌜ length (now board) ≡ boardSize ⌝ }
     ensures { λ r. ⌜ Changing (appliedTo (boardIn (now (board .entry))) (now (results .entry)) start t polled) r (boardIn (now (board .exit))) (now (out .entry)) (now (out .exit)) ⌝ }
 {
-    let asked = copied(&board[1280..1536]);
-    let mut sent = [0u8; 256];
     let mut changes = [0u8; 256];
-    readings::listed::apply(
-        &mut board[7424..38144],
-        &mut sent,
-        &mut changes,
-        &asked,
-        results,
-        start,
-        t,
-        polled,
-    );
-    put_changes(out, &board[7424..38144], &changes);
-    count(&changes)
+    apply_listed(board, &mut changes, results, start, t, polled);
+    tell_changes(board, out, &changes)
 }
 
 // Rule 7: the results of a round, which count from its start, however late they come.
@@ -97,8 +155,17 @@ pub fn apply_back(board: &mut [u8], out: &mut [u8], start: f64, t: i64) -> usize
     requires { ⌜ length (now board) ≡ boardSize ⌝ }
     ensures { λ r. ⌜ Changing (appliedTo (boardIn (now (board .entry))) (boardIn (now (board .entry)) .back) start t false) r (boardIn (now (board .exit))) (now (out .entry)) (now (out .exit)) ⌝ }
 {
-    let back = copied(&board[0..256]);
+    let back = part_of(board, 0);
     apply(board, out, &back, start, t, false)
+}
+
+// The entries of the table in its place become stale; the changes are listed.
+fn stale_listed(board: &mut [u8], changes: &mut [u8])
+    requires { ⌜ length (now board) ≡ boardSize ⌝ }
+    requires { ⌜ length (now changes) ≡ 256 ⌝ }
+    ensures { λ _. ⌜ Listed (staledIn (boardIn (now (board .entry)))) (boardIn (now (board .exit))) (listIn (now (changes .exit))) ⌝ }
+{
+    readings::stale::mark_stale(&mut board[7424..38144], changes);
 }
 
 // Rule 7: every cached tag not stale yet becomes stale; the changes go into `out`.
@@ -107,9 +174,8 @@ pub fn mark_stale(board: &mut [u8], out: &mut [u8]) -> usize
     ensures { λ r. ⌜ Changing (staledIn (boardIn (now (board .entry)))) r (boardIn (now (board .exit))) (now (out .entry)) (now (out .exit)) ⌝ }
 {
     let mut changes = [0u8; 256];
-    readings::stale::mark_stale(&mut board[7424..38144], &mut changes);
-    put_changes(out, &board[7424..38144], &changes);
-    count(&changes)
+    stale_listed(board, &mut changes);
+    tell_changes(board, out, &changes)
 }
 
 // The tags asked for, into `out`.

@@ -7,8 +7,8 @@ ghost use Rattle.versions.specs.Versions.{versionTable};
 ghost use Rattle.writes.specs.ReadBack.{readBackTags};
 ghost use Rattle.board.specs.Regions.{boardSize};
 ghost use Rattle.board.specs.Board.{boardIn, withRecords, withAsked, keptBack, describing};
-use super::parts::copied;
-use super::parts::put_back;
+use super::parts::part_of;
+use super::parts::put_part;
 use super::parts::shorten;
 use versions::version::Version;
 
@@ -17,7 +17,7 @@ pub fn ask_read_back(board: &mut [u8], k: u16)
     requires { ⌜ length (now board) ≡ boardSize ⌝ }
     ensures { λ _. ⌜ boardIn (now (board .exit)) ≡ withAsked (boardIn (now (board .entry))) (take (boardIn (now (board .entry)) .askedRoom) (readBackTags (boardIn (now (board .entry)) .table .words) k)) ⌝ }
 {
-    let words = copied(&board[1024..1280]);
+    let words = part_of(board, 1024);
     writes::readback::list_read_back(&words, k, &mut board[1280..1536]);
 }
 
@@ -35,17 +35,17 @@ pub fn ask_descriptions(board: &mut [u8])
     requires { ⌜ length (now board) ≡ boardSize ⌝ }
     ensures { λ _. ⌜ boardIn (now (board .exit)) ≡ describing (boardIn (now (board .entry))) ⌝ }
 {
-    let mut asked = copied(&board[1280..1536]);
+    let mut asked = part_of(board, 1280);
     descriptions::list_asked(&board[7424..38144], &mut asked);
+    put_part(board, 1280, asked);
     descriptions::use_up(&mut board[7424..38144]);
-    put_back(&mut board[1280..1536], asked);
 }
 
 pub fn learn(board: &mut [u8], found: &[u8])
     requires { ⌜ length (now board) ≡ boardSize ⌝ }
     ensures { λ _. ⌜ boardIn (now (board .exit)) ≡ withRecords (boardIn (now (board .entry))) (learnt (now (found .entry)) (boardIn (now (board .entry)) .asked) (boardIn (now (board .entry)) .table .tags)) ⌝ }
 {
-    let asked = copied(&board[1280..1536]);
+    let asked = part_of(board, 1280);
     descriptions::learn(&mut board[7424..38144], &asked, found);
 }
 
@@ -53,7 +53,7 @@ pub fn learn_none(board: &mut [u8])
     requires { ⌜ length (now board) ≡ boardSize ⌝ }
     ensures { λ _. ⌜ boardIn (now (board .exit)) ≡ withRecords (boardIn (now (board .entry))) (learntNone (boardIn (now (board .entry)) .asked) (boardIn (now (board .entry)) .table .tags)) ⌝ }
 {
-    let asked = copied(&board[1280..1536]);
+    let asked = part_of(board, 1280);
     descriptions::learn_none(&mut board[7424..38144], &asked);
 }
 
@@ -68,7 +68,7 @@ pub fn check_version(
     requires { ⌜ length (now board) ≡ boardSize ⌝ }
     ensures { λ _. ⌜ boardIn (now (board .exit)) ≡ withRecords (boardIn (now (board .entry))) (versionTable old new connecting (now (settings .entry)) (boardIn (now (board .entry)) .table .words) (boardIn (now (board .entry)) .table .tags)) ⌝ }
 {
-    let words = copied(&board[1024..1280]);
+    let words = part_of(board, 1024);
     versions::check::check_version(
         &mut board[7424..38144],
         &words,

@@ -53,17 +53,8 @@ part-keep-configured-end c = search needs
 keep-configured-requires : tie.Need-keep-configured-requires
 keep-configured-requires c κs = search needs
 
-sub-copied : tie.Need-sub-copied
-sub-copied c = search needs
-
-part-copied-start : tie.Need-part-copied-start
-part-copied-start c = search needs
-
-part-copied-end : tie.Need-part-copied-end
-part-copied-end c = search needs
-
-copied-requires : tie.Need-copied-requires
-copied-requires c κs = search needs
+part-of-requires : tie.Need-part-of-requires
+part-of-requires c κs = search needs
 
 sub-take-all : tie.Need-sub-take-all
 sub-take-all c = search needs
@@ -82,26 +73,26 @@ take-all-requires c κs = search needs
 
 same-length : tie.Need-same-length
 same-length c =
-    let s = c .before .before .before .before .before .before .before .before .before .before .before .before .before .before .before .before .before .before .before .before .before .before .before .before .before .before .before .before .before in
-    let bs = c .before .before .before .before .before .before .before .before .before .before .before .before .before .before .before .before .before .before .before .before .before .before .clear .last .0 in
-    let k = c .before .before .before .before .before .before .before .before .before .before .before .before .before .before .before .before .before .before .fill-keys in
-    let w = c .before .before .before .before .before .before .before .before .before .before .before .before .before .before .fill-words in
-    let g = c .before .before .before .before .before .before .before .before .before .before .keep-configured in
+    let s = c .before .before .before .before .before .before .before .before .before .before .before .before .before .before .before .before .before .before .before .before .before .before .before .before .before .before .before .before in
+    let bs = c .before .before .before .before .before .before .before .before .before .before .before .before .before .before .before .before .before .before .before .before .before .clear .last .0 in
+    let k = c .before .before .before .before .before .before .before .before .before .before .before .before .before .before .before .before .before .fill-keys in
+    let w = c .before .before .before .before .before .before .before .before .before .before .before .before .before .fill-words in
+    let g = c .before .before .before .before .before .before .before .before .before .keep-configured in
     let t = c .before .before .take-all in
-    let zero : bs ≡ zeros boardSize = c .before .before .before .before .before .before .before .before .before .before .before .before .before .before .before .before .before .before .before .before .before .before .clear .ensures ∙ ap zeros (s .pre) in
+    let zero : bs ≡ zeros boardSize = c .before .before .before .before .before .before .before .before .before .before .before .before .before .before .before .before .before .before .before .before .before .clear .ensures ∙ ap zeros (s .pre) in
     made-length bs (k .last .1 .1 .0) (w .last .1 .1 .0) (g .last .0) (t .last .0) zero (k .kept .1 .1 .0) (w .kept .1 .1 .0) (g .kept .0) (t .kept .0) ∙ sym (s .pre)
 
 returns : tie.Need-returns
 returns c =
-    let s = c .before .before .before .before .before .before .before .before .before .before .before .before .before .before .before .before .before .before .before .before .before .before .before .before .before .before .before .before .before in
-    let bs = c .before .before .before .before .before .before .before .before .before .before .before .before .before .before .before .before .before .before .before .before .before .before .clear .last .0 in
-    let k = c .before .before .before .before .before .before .before .before .before .before .before .before .before .before .before .before .before .before .fill-keys in
-    let w = c .before .before .before .before .before .before .before .before .before .before .before .before .before .before .fill-words in
-    let g = c .before .before .before .before .before .before .before .before .before .before .keep-configured in
+    let s = c .before .before .before .before .before .before .before .before .before .before .before .before .before .before .before .before .before .before .before .before .before .before .before .before .before .before .before .before in
+    let bs = c .before .before .before .before .before .before .before .before .before .before .before .before .before .before .before .before .before .before .before .before .before .clear .last .0 in
+    let k = c .before .before .before .before .before .before .before .before .before .before .before .before .before .before .before .before .before .fill-keys in
+    let w = c .before .before .before .before .before .before .before .before .before .before .before .before .before .fill-words in
+    let g = c .before .before .before .before .before .before .before .before .before .keep-configured in
     let t = c .before .before .take-all in
-    let zero : bs ≡ zeros boardSize = c .before .before .before .before .before .before .before .before .before .before .before .before .before .before .before .before .before .before .before .before .before .before .clear .ensures ∙ ap zeros (s .pre) in
+    let zero : bs ≡ zeros boardSize = c .before .before .before .before .before .before .before .before .before .before .before .before .before .before .before .before .before .before .before .before .before .clear .ensures ∙ ap zeros (s .pre) in
     let b = made bs (k .last .1 .1 .0) (w .last .1 .1 .0) (g .last .0) in
-    let words = c .before .before .before .before .before .copied in
+    let words = c .before .before .before .before .before .part-of in
     let taken : List ℕ → List Tag = λ (l : List ℕ). tableTaken false (now (s .args .settings)) (halvesIn l) (tableIn (part 7424 30720 b)) in
     created bs (k .last .1 .1 .0) (w .last .1 .1 .0) (g .last .0) (t .last .0) zero (k .kept .1 .1 .0) (w .kept .1 .1 .0) (g .kept .0) (t .kept .0)
     (now (s .args .names)) (now (s .args .ends)) (now (s .args .settings)) (now (s .args .groups))
@@ -124,10 +115,7 @@ create-spec =
     part-keep-configured-start
     part-keep-configured-end
     keep-configured-requires
-    sub-copied
-    part-copied-start
-    part-copied-end
-    copied-requires
+    part-of-requires
     sub-take-all
     part-take-all-start
     part-take-all-end

@@ -13,17 +13,8 @@ use borrow.Author.Needs.{needs}
 use Rattle.board.proofs.polls.apply_back.Statement.{statement}
 use Rattle.board.proofs.polls.apply_back.Tie as tie
 
-sub-copied : tie.Need-sub-copied
-sub-copied c = search needs
-
-part-copied-start : tie.Need-part-copied-start
-part-copied-start c = search needs
-
-part-copied-end : tie.Need-part-copied-end
-part-copied-end c = search needs
-
-copied-requires : tie.Need-copied-requires
-copied-requires c κs = search needs
+part-of-requires : tie.Need-part-of-requires
+part-of-requires c κs = search needs
 
 slice-aggregate-apply : tie.Need-slice-aggregate-apply
 slice-aggregate-apply c = search needs
@@ -40,21 +31,19 @@ same-length-2 c = search needs
 returns : tie.Need-returns
 unfolding boardIn boardOf regionsIn
 returns c =
-    let s = c .before .before .before .before .before .before .before .before .before .before .before .before .before in
+    let s = c .before .before .before .before .before .before .before .before .before .before .before .before in
     let a = s .args in
+    let back = c .before .before .before .before .before .before .before .before .part-of in
     let y = c .before .before .before .before .apply in
     let B = boardIn (now (a .board)) in
-    subst (λ (z : List ℕ). Changing (appliedTo B z (a .start) (a .t) false) (y .result) (boardIn (y .last .0)) (now (a .out)) (y .last .1 .0)) (c .before .before .before .before .before .before .before .before .copied .ensures)
-    (subst (λ (t : ℤ). Changing (appliedTo B (c .before .before .before .before .before .before .before .before .copied .result) (a .start) t false) (y .result) (boardIn (y .last .0)) (now (a .out)) (y .last .1 .0)) (toZ-ofZ w64 (a .t) (s .fits .t)) (y .ensures))
+    subst (λ (z : List ℕ). Changing (appliedTo B z (a .start) (a .t) false) (y .result) (boardIn (y .last .0)) (now (a .out)) (y .last .1 .0)) (back .ensures)
+    (subst (λ (t : ℤ). Changing (appliedTo B (back .result) (a .start) t false) (y .result) (boardIn (y .last .0)) (now (a .out)) (y .last .1 .0)) (toZ-ofZ w64 (a .t) (s .fits .t)) (y .ensures))
 
 pub apply-back-spec : {M : Type 1} → statement M
 apply-back-spec =
     tie.close
     (tie.spec
-    sub-copied
-    part-copied-start
-    part-copied-end
-    copied-requires
+    part-of-requires
     slice-aggregate-apply
     apply-requires
     same-length

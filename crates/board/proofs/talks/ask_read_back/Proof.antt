@@ -14,17 +14,8 @@ use borrow.Author.Needs.{needs}
 use Rattle.board.proofs.talks.ask_read_back.Statement.{statement}
 use Rattle.board.proofs.talks.ask_read_back.Tie as tie
 
-sub-copied : tie.Need-sub-copied
-sub-copied c = search needs
-
-part-copied-start : tie.Need-part-copied-start
-part-copied-start c = search needs
-
-part-copied-end : tie.Need-part-copied-end
-part-copied-end c = search needs
-
-copied-requires : tie.Need-copied-requires
-copied-requires c κs = search needs
+part-of-requires : tie.Need-part-of-requires
+part-of-requires c κs = search needs
 
 slice-aggregate-list-read-back : tie.Need-slice-aggregate-list-read-back
 slice-aggregate-list-read-back c = search needs
@@ -47,20 +38,17 @@ same-length c = search needs
 returns : tie.Need-returns
 unfolding boardIn boardOf regionsIn
 returns c =
-    let s = c .before .before .before .before .before .before .before .before .before in
+    let s = c .before .before .before .before .before .before .before .before in
     let bs = now (s .args .board) in
     let list = c .before .before .list-read-back in
     asked-put bs (list .last .1 .1 .0) (s .pre) _ (list .kept .1 .1 .0)
-    (list .ensures ∙ ap (λ (z : List ℕ). take (room (part 1280 256 bs)) (readBackTags (halvesIn z) (s .args .k))) (c .before .before .before .before .before .copied .ensures))
+    (list .ensures ∙ ap (λ (z : List ℕ). take (room (part 1280 256 bs)) (readBackTags (halvesIn z) (s .args .k))) (c .before .before .before .before .before .part-of .ensures))
 
 pub ask-read-back-spec : {M : Type 1} → statement M
 ask-read-back-spec =
     tie.close
     (tie.spec
-    sub-copied
-    part-copied-start
-    part-copied-end
-    copied-requires
+    part-of-requires
     slice-aggregate-list-read-back
     sub-list-read-back
     part-list-read-back-start

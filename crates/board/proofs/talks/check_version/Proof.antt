@@ -14,17 +14,8 @@ use borrow.Author.Needs.{needs}
 use Rattle.board.proofs.talks.check_version.Statement.{statement}
 use Rattle.board.proofs.talks.check_version.Tie as tie
 
-sub-copied : tie.Need-sub-copied
-sub-copied c = search needs
-
-part-copied-start : tie.Need-part-copied-start
-part-copied-start c = search needs
-
-part-copied-end : tie.Need-part-copied-end
-part-copied-end c = search needs
-
-copied-requires : tie.Need-copied-requires
-copied-requires c κs = search needs
+part-of-requires : tie.Need-part-of-requires
+part-of-requires c κs = search needs
 
 sub-check-version : tie.Need-sub-check-version
 sub-check-version c = search needs
@@ -47,10 +38,10 @@ same-length c = search needs
 returns : tie.Need-returns
 unfolding boardIn boardOf regionsIn
 returns c =
-    let s = c .before .before .before .before .before .before .before .before .before .before in
+    let s = c .before .before .before .before .before .before .before .before .before in
     let bs = now (s .args .board) in
     let check = c .before .before .check-version in
-    let words = c .before .before .before .before .before .copied in
+    let words = c .before .before .before .before .before .part-of in
     let after : List ℕ → List Tag = λ (z : List ℕ). versionTable (s .args .old) (s .args .new) (s .args .connecting) (now (s .args .settings)) (halvesIn z) (tableIn (part 7424 30720 bs)) in
     records-put bs (check .last .0) (s .pre) _ (check .kept .0) (_∙_ {b = after (words .result)} (check .ensures) (ap after (words .ensures)))
 
@@ -58,10 +49,7 @@ pub check-version-spec : {M : Type 1} → statement M
 check-version-spec =
     tie.close
     (tie.spec
-    sub-copied
-    part-copied-start
-    part-copied-end
-    copied-requires
+    part-of-requires
     sub-check-version
     part-check-version-start
     part-check-version-end

@@ -13,17 +13,8 @@ use borrow.Author.Needs.{needs}
 use Rattle.board.proofs.talks.learn_none.Statement.{statement}
 use Rattle.board.proofs.talks.learn_none.Tie as tie
 
-sub-copied : tie.Need-sub-copied
-sub-copied c = search needs
-
-part-copied-start : tie.Need-part-copied-start
-part-copied-start c = search needs
-
-part-copied-end : tie.Need-part-copied-end
-part-copied-end c = search needs
-
-copied-requires : tie.Need-copied-requires
-copied-requires c κs = search needs
+part-of-requires : tie.Need-part-of-requires
+part-of-requires c κs = search needs
 
 sub-learn-none : tie.Need-sub-learn-none
 sub-learn-none c = search needs
@@ -46,20 +37,17 @@ same-length c = search needs
 returns : tie.Need-returns
 unfolding boardIn boardOf regionsIn
 returns c =
-    let s = c .before .before .before .before .before .before .before .before .before in
+    let s = c .before .before .before .before .before .before .before .before in
     let bs = now (s .args .board) in
     let learn = c .before .before .learn-none in
     records-put bs (learn .last .0) (s .pre) _ (learn .kept .0)
-    (learn .ensures ∙ ap (λ (z : List ℕ). learntNone (listIn z) (tableIn (part 7424 30720 bs))) (c .before .before .before .before .before .copied .ensures))
+    (learn .ensures ∙ ap (λ (z : List ℕ). learntNone (listIn z) (tableIn (part 7424 30720 bs))) (c .before .before .before .before .before .part-of .ensures))
 
 pub learn-none-spec : {M : Type 1} → statement M
 learn-none-spec =
     tie.close
     (tie.spec
-    sub-copied
-    part-copied-start
-    part-copied-end
-    copied-requires
+    part-of-requires
     sub-learn-none
     part-learn-none-start
     part-learn-none-end
