@@ -1,6 +1,7 @@
 -- `shown::lists::group_stats` meets its contract.
 use mathlib.Core.Path.{_≡_, refl, ap, _∙_}
 use Prim.Native.Nat.{_/_}
+use native.Mathlib.Omega.{arith}
 use denote.Ref.{now}
 use lib.ListN.{length}
 use Rattle.lent.specs.Lent.{wroteAll}
@@ -19,7 +20,7 @@ returns c =
     let s = c .before .before .before .before in
     let B = boardIn (now (s .args .board)) in
     let out = now (s .args .out) in
-    let code : shortOf (length out / 40) 16 ≡ 43 = short (length out / 40) 16 (c .before .if1 .taken) in
+    let code : shortOf (length out / 40) 16 ≡ 43 = short (length out / 40) 16 (omega (arith, c .before .if1 .taken)) in
     refused 43 (shortOf (length out / 40) 16) (groupCount B out) out (wroteAll out (groupCells B)) (c .listed .result) refl code (c .listed .ensures)
 
 group-stats-requires : tie.Need-group-stats-requires
@@ -37,7 +38,7 @@ returns-2 c =
     let B = boardIn (now (s .args .board)) in
     let out = now (s .args .out) in
     let call = c .before .before .before .group-stats in
-    let code : shortOf (length out / 40) 16 ≡ 0 = enough (length out / 40) 16 (c .before .before .before .before .before .if1 .left) in
+    let code : shortOf (length out / 40) 16 ≡ 0 = enough (length out / 40) 16 (omega (arith, c .before .before .before .before .before .if1 .left)) in
     let told : c .listed2 .result ≡ listed 0 (groupCount B out) = c .listed2 .ensures ∙ ap (listed 0) (call .ensures .0) in
     given (shortOf (length out / 40) 16) (groupCount B out) out (call .last .1 .0) (wroteAll out (groupCells B)) (c .listed2 .result) code told (call .ensures .1)
 

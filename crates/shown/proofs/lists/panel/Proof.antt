@@ -1,5 +1,6 @@
 -- `shown::lists::panel` meets its contract.
 use mathlib.Core.Path.{_≡_, refl, ap, _∙_}
+use native.Mathlib.Omega.{arith}
 use denote.Ref.{now}
 use lib.ListN.{length}
 use Rattle.panel.specs.Panel.{written}
@@ -18,7 +19,7 @@ returns c =
     let s = c .before .before .before .before in
     let B = boardIn (now (s .args .board)) in
     let out = now (s .args .out) in
-    let code : shortOf (length out) 241 ≡ 43 = short (length out) 241 (c .before .if1 .taken) in
+    let code : shortOf (length out) 241 ≡ 43 = short (length out) 241 (omega (arith, c .before .if1 .taken)) in
     refused 43 (shortOf (length out) 241) (panelCount B out) out (written out (panelBytes B)) (c .listed .result) refl code (c .listed .ensures)
 
 write-panel-requires : tie.Need-write-panel-requires
@@ -36,7 +37,7 @@ returns-2 c =
     let B = boardIn (now (s .args .board)) in
     let out = now (s .args .out) in
     let call = c .before .before .before .write-panel in
-    let code : shortOf (length out) 241 ≡ 0 = enough (length out) 241 (c .before .before .before .before .before .if1 .left) in
+    let code : shortOf (length out) 241 ≡ 0 = enough (length out) 241 (omega (arith, c .before .before .before .before .before .if1 .left)) in
     let told : c .listed2 .result ≡ listed 0 (panelCount B out) = c .listed2 .ensures ∙ ap (listed 0) (call .ensures .0) in
     given (shortOf (length out) 241) (panelCount B out) out (call .last .1 .0) (written out (panelBytes B)) (c .listed2 .result) code told (call .ensures .1)
 
