@@ -6,21 +6,10 @@ use lib.IntN.{ℤ}
 use lib.ListN.{length-replicate}
 use mir.Syntax.{w64}
 use mir.ValLaws.{toZ-ofZ}
-<<<<<<< HEAD
-use lib.ListN.{length, replicate, length-replicate}
-use Rattle.memory.specs.Lists.{listIn, room}
-use Rattle.table.specs.Table.{tableIn}
-use Rattle.rounds.specs.Room.{fitted}
-use Rattle.readings.specs.Listed.{Applying, applyAll, inTagOrder}
-use Rattle.board.specs.Regions.{regionsIn, part}
-use Rattle.board.specs.Board.{boardIn, boardOf, appliedTo}
-use Rattle.board.proofs.PollLaws.{part-long, put-long, same-room, changing}
-=======
 use Rattle.memory.specs.Lists.{listIn}
 use Rattle.board.specs.Board.{Changed, boardIn, appliedTo}
 use Rattle.board.specs.Lending.{Listed}
 use Rattle.board.proofs.PollLaws.{told}
->>>>>>> d3f4b3e236ff5892c36a60be8ce809246fb37c30
 use borrow.Author.Needs.{needs}
 use Rattle.board.proofs.polls.apply.Statement.{statement}
 use Rattle.board.proofs.polls.apply.Tie as tie
