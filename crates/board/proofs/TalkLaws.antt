@@ -1,5 +1,6 @@
 -- The board after one part of it was lent and given back: what that part holds is new, and all else stays.
 use mathlib.Core.Path.{_≡_, refl, ap, sym, _∙_}
+use mathlib.Core.Bool.{Bool}
 use mathlib.Core.List.{List, map}
 use Prim.Native.Nat.{ℕ, _+_, _%_, _≤_, _<_}
 use native.Mathlib.Nat.{mod-eq-of-lt}
@@ -16,6 +17,8 @@ use Rattle.lent.specs.Lent.{overBytes}
 use Rattle.rounds.specs.Room.{fitted}
 use Rattle.results.specs.Results.{resultCount}
 use Rattle.descriptions.specs.Descriptions.{askedTags, unwanted}
+use Rattle.versions.specs.Versions.{versionTable}
+use Rattle.versions.specs.declared.version.Version.{Version}
 use Rattle.writes.specs.Queue.{queueIn, queueRoom, writeTags}
 use Rattle.writes.specs.declared.queue.Write.{Write}
 use Rattle.writes.proofs.QueueLaws.{queue-room-same}
@@ -55,6 +58,17 @@ module _ (bs y : List ℕ) (h : length bs ≡ boardSize) where
   pub records-put : (tags : List Tag) → length y ≡ length (part 7424 30720 bs) → tableIn y ≡ tags → boardIn (putMid 7424 30720 bs y) ≡ withRecords (boardIn bs) tags
   unfolding boardIn regionsIn
   records-put tags e i = ap boardOf (put-table bs y h (e ∙ part-length 7424 30720 bs (omega (arith, h)))) ∙ records-of (regionsIn bs) y tags i
+
+-- ---- the table lent with a copy w of the words
+
+pub version-put : (bs t w settings : List ℕ) (old new : Version) (connecting : Bool) → length bs ≡ boardSize → length t ≡ length (part 7424 30720 bs) → w ≡ part 1024 256 bs
+    → tableIn t ≡ versionTable old new connecting settings (halvesIn w) (tableIn (part 7424 30720 bs))
+    → boardIn (putMid 7424 30720 bs t) ≡ withRecords (boardIn bs) (versionTable old new connecting settings (boardIn bs .table .words) (boardIn bs .table .tags))
+unfolding boardIn boardOf regionsIn
+version-put bs t w settings old new connecting h k e i =
+    let tags = tableIn (part 7424 30720 bs) in
+    records-put bs t h (versionTable old new connecting settings (halvesIn (part 1024 256 bs)) tags) k
+    (i ∙ ap (λ (z : List ℕ). versionTable old new connecting settings (halvesIn z) tags) e)
 
 -- ---- a list cut short
 
