@@ -20,7 +20,7 @@ unfolding overBytes
 over-none [] = refl
 over-none (o ∷ out) = refl
 
-over-length : (out bytes : List ℕ) → length (overBytes out bytes) ≡ length out
+pub over-length : (out bytes : List ℕ) → length (overBytes out bytes) ≡ length out
 unfolding overBytes
 over-length [] bytes = refl
 over-length (o ∷ out) [] = refl

@@ -15,6 +15,7 @@ use Rattle.memory.proofs.CellLaws.{cells-at}
 use Rattle.values.specs.declared.value.Value.the-variants.{Null}
 use Rattle.words.specs.Value.{valueFrom}
 use Rattle.lent.specs.Lent.{overBytes}
+use Rattle.lent.proofs.LentLaws.{over-length}
 use Rattle.results.specs.Results.{resultCount, resultIn}
 use Rattle.versions.specs.Versions.{isReloaded}
 use Rattle.writes.specs.Queue.{popped}
@@ -49,16 +50,16 @@ use Rattle.uncut.specs.Backs.{BackWhole, BacksWhole}
 abbrev waitsBack : Worker → Bool
 waitsBack W = eqb (phaseNumber (W .head .progress .phase)) 7
 
+-- either of two
+either : {A : Type 0} (P : A → Type 0) (b : Bool) (x y : A) → P x → P y → P (cond b x y)
+either P true x y p q = p
+either P false x y p q = q
+
 -- ---- what is told
 
 record Apart (W : Worker) (T : Told) : Type 0 where
   away : waitsBack W ≡ false → waitsBack (T .left) ≡ false
   long : length (T .left .board .back) ≡ length (W .board .back)
-
--- either of two
-apart-if : (W : Worker) (b : Bool) (x y : Told) → Apart W x → Apart W y → Apart W (cond b x y)
-apart-if W true x y p q = p
-apart-if W false x y p q = q
 
 -- told from an engine M that waits for the same and has the same bytes
 apart-after : (W M : Worker) (T : Told) → waitsBack M ≡ waitsBack W → length (M .board .back) ≡ length (W .board .back) → Apart M T → Apart W T
@@ -75,21 +76,21 @@ module _ (W : Worker) where
 
   apart-disconnected : Apart W (disconnected W)
   unfolding disconnected
-  apart-disconnected = apart-if W (isState (W .head .link) Disconnected) _ _ apart-backing-off (record { away = λ w. refl; long = refl })
+  apart-disconnected = either (Apart W) (isState (W .head .link) Disconnected) _ _ apart-backing-off (record { away = λ w. refl; long = refl })
 
   apart-top : Apart W (top W)
   unfolding top
-  apart-top = apart-if W (W .head .link .stopping) _ _ apart-ended (record { away = λ w. refl; long = refl })
+  apart-top = either (Apart W) (W .head .link .stopping) _ _ apart-ended (record { away = λ w. refl; long = refl })
 
 apart-staling : (W : Worker) → Apart W (staling W)
 unfolding staling staledIn
 apart-staling W =
     let next = withBoard W (staledIn (W .board) .board) in
-    apart-if W (isEmpty (staledIn (W .board) .changes)) _ _ (apart-after W next (disconnected next) refl refl (apart-disconnected next)) (record { away = λ w. refl; long = refl })
+    either (Apart W) (isEmpty (staledIn (W .board) .changes)) _ _ (apart-after W next (disconnected next) refl refl (apart-disconnected next)) (record { away = λ w. refl; long = refl })
 
 apart-down : (W : Worker) → Apart W (down W)
 unfolding down
-apart-down W = apart-if W (W .head .link .stopping) _ _ (apart-ended W) (apart-if W (isEmpty (W .board .queue)) _ _ (apart-staling W) (record { away = λ w. refl; long = refl }))
+apart-down W = either (Apart W) (W .head .link .stopping) _ _ (apart-ended W) (either (Apart W) (isEmpty (W .board .queue)) _ _ (apart-staling W) (record { away = λ w. refl; long = refl }))
 
 -- ---- rounds
 
@@ -99,13 +100,13 @@ module _ (at : At) where
 
   apart-idle : (W : Worker) → Apart W (idle W at)
   unfolding idle
-  apart-idle W = apart-if W (le (remaining W at) (rounded binary64 false 1 10000)) _ _ (apart-polls W) (record { away = λ w. refl; long = refl })
+  apart-idle W = either (Apart W) (le (remaining W at) (rounded binary64 false 1 10000)) _ _ (apart-polls W) (record { away = λ w. refl; long = refl })
 
   apart-tail : (W : Worker) → Apart W (tail W at)
   unfolding tail
   apart-tail W =
       let next = tallied W (tailStats (W .head .stats) (elapsed W at) (W .head .progress .tick) (at .wall)) in
-      apart-if W (le (elapsed W at) (W .head .progress .tick)) _ _ (apart-after W next (idle next at) refl refl (apart-idle next)) (apart-after W next (polls next) refl refl (apart-polls next))
+      either (Apart W) (le (elapsed W at) (W .head .progress .tick)) _ _ (apart-after W next (idle next at) refl refl (apart-idle next)) (apart-after W next (polls next) refl refl (apart-polls next))
 
   apart-resume : (W : Worker) (a : After) → Apart W (resume W at a)
   unfolding resume
@@ -123,13 +124,13 @@ module _ (at : At) where
 
   apart-checking : (W : Worker) → Apart W (checking W at)
   unfolding checking
-  apart-checking W = apart-if W (W .head .progress .boundary) _ _ (record { away = λ w. refl; long = refl }) (apart-writing W Tail)
+  apart-checking W = either (Apart W) (W .head .progress .boundary) _ _ (record { away = λ w. refl; long = refl }) (apart-writing W Tail)
 
   apart-reading : (W : Worker) → Apart W (reading W at)
   unfolding reading
   apart-reading W =
       let next = tallied (withBoard W (describing (W .board))) (readStats (W .head .stats) (length (W .board .asked))) in
-      apart-if W (isEmpty (describing (W .board) .asked)) _ _ (apart-after W next (checking next at) refl refl (apart-checking next)) (record { away = λ w. refl; long = refl })
+      either (Apart W) (isEmpty (describing (W .board) .asked)) _ _ (apart-after W next (checking next at) refl refl (apart-checking next)) (record { away = λ w. refl; long = refl })
 
   apart-poll : (W : Worker) → Apart W (poll W at)
   unfolding poll polled
@@ -137,48 +138,48 @@ module _ (at : At) where
       let R = roundAt W at in
       let next = withWorked W at R in
       let rest : Apart next (cond (isEmpty (R .list)) (reading next at) (tell (phased next Read) (reply.read (length (R .list))) (R .list))) =
-      apart-if next (isEmpty (R .list)) _ _ (apart-reading next) (record { away = λ w. refl; long = refl }) in
-      apart-if W (W .head .link .stopping) _ _ (apart-writing W End) (record { away = λ w. rest .away w; long = rest .long })
+      either (Apart next) (isEmpty (R .list)) _ _ (apart-reading next) (record { away = λ w. refl; long = refl }) in
+      either (Apart W) (W .head .link .stopping) _ _ (apart-writing W End) (record { away = λ w. rest .away w; long = rest .long })
 
   -- the wait after it, where there is one
   apart-lastly : (W : Worker) (T : Told) → Apart W T → Apart W (lastly T at)
-  apart-lastly W T a = apart-if W (goesOn T) _ T (record { away = λ w. refl; long = a .long }) a
+  apart-lastly W T a = either (Apart W) (goesOn T) _ T (record { away = λ w. refl; long = a .long }) a
 
 -- ---- answers
 
 apart-connected : (W : Worker) → Apart W (connected W)
 unfolding connected
-apart-connected W = apart-if W (isState (W .head .link) Connected) _ _ (record { away = λ w. w; long = refl }) (record { away = λ w. refl; long = refl })
+apart-connected W = either (Apart W) (isState (W .head .link) Connected) _ _ (record { away = λ w. w; long = refl }) (record { away = λ w. refl; long = refl })
 
 apart-reconnecting : (W : Worker) → Apart W (reconnecting W)
 unfolding reconnecting
 apart-reconnecting W =
     let next = tallied W (reconnected (W .head .stats)) in
-    apart-if W (isState (W .head .link) Connecting) _ _ (apart-after W next (top next) refl refl (apart-top next)) (record { away = λ w. refl; long = refl })
+    either (Apart W) (isState (W .head .link) Connecting) _ _ (apart-after W next (top next) refl refl (apart-top next)) (record { away = λ w. refl; long = refl })
 
 apart-opened : (W : Worker) → Apart W (opened W)
 unfolding opened
-apart-opened W = apart-if W (isEmpty (W .board .queue)) _ _ (record { away = λ w. refl; long = refl }) (record { away = λ w. refl; long = refl })
+apart-opened W = either (Apart W) (isEmpty (W .board .queue)) _ _ (record { away = λ w. refl; long = refl }) (record { away = λ w. refl; long = refl })
 
 apart-open-version : (W : Worker) (a : Answer) → Apart W (openVersion W a)
 unfolding openVersion
 apart-open-version W a =
     let next = versioned W true a in
-    apart-if W (isReloaded (W .head .link .version) (numberOf a)) _ _ (record { away = λ w. refl; long = refl }) (apart-after W next (connected next) refl refl (apart-connected next))
+    either (Apart W) (isReloaded (W .head .link .version) (numberOf a)) _ _ (record { away = λ w. refl; long = refl }) (apart-after W next (connected next) refl refl (apart-connected next))
 
 apart-round-version : (W : Worker) (at : At) (a : Answer) → Apart W (roundVersion W at a)
 unfolding roundVersion
 apart-round-version W at a =
     let next = versioned W false a in
-    apart-if W (isReloaded (W .head .link .version) (numberOf a)) _ _ (record { away = λ w. refl; long = refl }) (apart-after W next (writing next at Tail) refl refl (apart-writing at next Tail))
+    either (Apart W) (isReloaded (W .head .link .version) (numberOf a)) _ _ (record { away = λ w. refl; long = refl }) (apart-after W next (writing next at Tail) refl refl (apart-writing at next Tail))
 
 apart-results : (W : Worker) (at : At) (a : Answer) → Apart W (results W at a)
 unfolding results appliedTo
 apart-results W at a =
     let C = appliedTo (W .board) (a .list) (W .head .progress .start) (at .wall) true in
     let next = withBoard W (C .board) in
-    apart-if W (eqb (a .kind) 6) _ _ (apart-down W)
-    (apart-if W (isEmpty (C .changes)) _ _ (apart-after W next (reading next at) refl refl (apart-reading at next)) (record { away = λ w. refl; long = refl }))
+    either (Apart W) (eqb (a .kind) 6) _ _ (apart-down W)
+    (either (Apart W) (isEmpty (C .changes)) _ _ (apart-after W next (reading next at) refl refl (apart-reading at next)) (record { away = λ w. refl; long = refl }))
 
 apart-descriptions : (W : Worker) (a : Answer) → Apart W (descriptions W a)
 unfolding descriptions
@@ -189,7 +190,7 @@ unfolding backApplied appliedTo
 apart-back-applied W at =
     let C = appliedTo (W .board) (W .board .back) (at .clock) (at .wall) false in
     let next = withBoard W (C .board) in
-    apart-if W (isEmpty (C .changes)) _ _ (apart-after W next (writing next at (W .head .progress .after)) refl refl (apart-writing at next (W .head .progress .after))) (record { away = λ w. refl; long = refl })
+    either (Apart W) (isEmpty (C .changes)) _ _ (apart-after W next (writing next at (W .head .progress .after)) refl refl (apart-writing at next (W .head .progress .after))) (record { away = λ w. refl; long = refl })
 
 apart-waited : (W : Worker) (at : At) → Apart W (waited W at)
 unfolding waited
@@ -197,7 +198,7 @@ apart-waited W at = apart-writing at W _
 
 apart-backed-off : (W : Worker) → Apart W (backedOff W)
 unfolding backedOff
-apart-backed-off W = apart-if W (W .head .link .stopping) _ _ (apart-ended W) (apart-reconnecting W)
+apart-backed-off W = either (Apart W) (W .head .link .stopping) _ _ (apart-ended W) (apart-reconnecting W)
 
 apart-taken : (p : Phase) (W : Worker) (at : At) → Apart W (taken p W at)
 unfolding taken
@@ -239,10 +240,6 @@ record HeldTold (T : Told) : Type 0 where
   held : Held (T .left)
   on : goesOn T ≡ true → waitsBack (T .left) ≡ false
 
-held-if : (b : Bool) (x y : Told) → HeldTold x → HeldTold y → HeldTold (cond b x y)
-held-if true x y p q = p
-held-if false x y p q = q
-
 -- an engine that waits for none
 away-held : (W : Worker) → length (W .board .back) ≡ 256 → waitsBack W ≡ false → Held W
 away-held W h e = record { long = h; few = λ t. absurd (true≢false (sym t ∙ e)) }
@@ -260,21 +257,14 @@ two words k n = omega (arith, length-take n (readBackTags words k), go (ltb 1 (g
 held-written : (W : Worker) (a : Answer) → Held W → HeldTold (written W a)
 unfolding written
 held-written W a v =
-    held-if (eqb (a .kind) 7) _ _ (record { held = record { long = v .long; few = λ t. two (W .board .table .words) (W .head .progress .tag) (W .board .askedRoom) }; on = λ g. absurd (true≢false (sym g)) })
-    (held-if (eqb (a .kind) 8) _ _ (record { held = away-held _ (v .long) refl; on = λ g. refl }) (record { held = away-held _ (v .long) refl; on = λ g. refl }))
-
--- bytes written over a list leave it as long
-over-long : (out bytes : List ℕ) → length (overBytes out bytes) ≡ length out
-unfolding overBytes
-over-long [] bytes = refl
-over-long (o ∷ out) [] = refl
-over-long (o ∷ out) (b ∷ bytes) = ap suc (over-long out bytes)
+    either HeldTold (eqb (a .kind) 7) _ _ (record { held = record { long = v .long; few = λ t. two (W .board .table .words) (W .head .progress .tag) (W .board .askedRoom) }; on = λ g. absurd (true≢false (sym g)) })
+    (either HeldTold (eqb (a .kind) 8) _ _ (record { held = away-held _ (v .long) refl; on = λ g. refl }) (record { held = away-held _ (v .long) refl; on = λ g. refl }))
 
 held-read-back : (W : Worker) (a : Answer) → Held W → HeldTold (readBack W a)
 unfolding readBack
 held-read-back W a v =
-    held-if (eqb (a .kind) 6) _ _ (record { held = away-held _ (v .long) refl; on = λ g. refl })
-    (record { held = away-held _ (over-long (W .board .back) (a .list) ∙ v .long) refl; on = λ g. refl })
+    either HeldTold (eqb (a .kind) 6) _ _ (record { held = away-held _ (v .long) refl; on = λ g. refl })
+    (record { held = away-held _ (over-length (W .board .back) (a .list) ∙ v .long) refl; on = λ g. refl })
 
 -- an answer to an engine in the phase p
 held-handled : (p : Phase) (W : Worker) (at : At) (a : Answer) → W .head .progress .phase ≡ p → Held W → HeldTold (handled p W at a)
@@ -289,7 +279,7 @@ held-handled p W at a e v = go p e
 
     go : (q : Phase) → W .head .progress .phase ≡ q → HeldTold (handled q W at a)
     go Begin e = by Begin _ e refl (apart-top W)
-    go Connect e = by Connect _ e refl (apart-if W (eqb (a .kind) 1) _ _ (apart-opened W) (apart-down W))
+    go Connect e = by Connect _ e refl (either (Apart W) (eqb (a .kind) 1) _ _ (apart-opened W) (apart-down W))
     go OpenVersion e = by OpenVersion _ e refl (apart-open-version W a)
     go Version e = by Version _ e refl (apart-round-version W at a)
     go Read e = by Read _ e refl (apart-results W at a)
@@ -347,7 +337,7 @@ over-word out bytes i g h =
 
 over-cell : (out bytes : List ℕ) (i : ℕ) → 8 * i + 8 ≤ length out → 8 * i + 8 ≤ length bytes → getD (cellsIn (overBytes out bytes)) i 0 ≡ getD (cellsIn bytes) i 0
 over-cell out bytes i g h =
-    cells-at (overBytes out bytes) i (omega (arith, over-long out bytes)) ∙ over-word out bytes (8 * i) g h ∙ sym (cells-at bytes i (omega arith))
+    cells-at (overBytes out bytes) i (omega (arith, over-length out bytes)) ∙ over-word out bytes (8 * i) g h ∙ sym (cells-at bytes i (omega arith))
 
 -- A result that lies within both is the one that was written.
 over-result : (out bytes : List ℕ) (i : ℕ) → 32 * i + 32 ≤ length out → 32 * i + 32 ≤ length bytes → resultIn (overBytes out bytes) i ≡ resultIn bytes i
@@ -355,7 +345,7 @@ unfolding resultIn
 over-result out bytes i g h =
     let cell : (j : ℕ) → j < 4 → getD (cellsIn (overBytes out bytes)) (4 * i + j) 0 ≡ getD (cellsIn bytes) (4 * i + j) 0 = λ j l. over-cell out bytes (4 * i + j) (omega arith) (omega arith) in
     rw (
-      lt-ltb i (resultCount (overBytes out bytes)) (omega (arith, over-long out bytes)),
+      lt-ltb i (resultCount (overBytes out bytes)) (omega (arith, over-length out bytes)),
       lt-ltb i (resultCount bytes) (omega arith),
       over-cell out bytes (4 * i) (omega arith) (omega arith),
       cell 1 (omega arith),
@@ -393,17 +383,12 @@ module _ (W : Worker) (v : Held W) (e : W .head .progress .phase ≡ ReadBack) (
   kept-step : (out : ℕ) → Kept (step W at a out)
   kept-step out = step-cases W at a out Kept (λ n f. absurd (omega (arith, ap phaseNumber (sym e ∙ f)))) (λ k. kept-stepped)
 
--- either of two engines
-held-cond : (b : Bool) (M W : Worker) → Held M → Held W → Held (cond b M W)
-held-cond true M W p q = p
-held-cond false M W p q = q
-
 held-after : (c : Call) (W : Worker) → Held W → Held (after c W)
 unfolding after
-held-after (tier clock tag to) W v = held-cond (eqb (tierCheck W clock tag to) 0) (tiered W clock tag to) W (record { long = v .long; few = v .few }) v
-held-after (load clock list) W v = held-cond (eqb (loadCheck W clock list) 0) (loaded W clock list) W (record { long = v .long; few = v .few }) v
+held-after (tier clock tag to) W v = either Held (eqb (tierCheck W clock tag to) 0) (tiered W clock tag to) W (record { long = v .long; few = v .few }) v
+held-after (load clock list) W v = either Held (eqb (loadCheck W clock list) 0) (loaded W clock list) W (record { long = v .long; few = v .few }) v
 held-after (steps clock wall kind number message list out) W v = held-step W (at clock wall) (answerOf kind number message list) (length out) v
-held-after (write tag kind word) W v = held-cond (eqb (writeCheck W tag (valueFrom kind word)) 0) (wrote W tag (valueFrom kind word)) W (record { long = v .long; few = v .few }) v
+held-after (write tag kind word) W v = either Held (eqb (writeCheck W tag (valueFrom kind word)) 0) (wrote W tag (valueFrom kind word)) W (record { long = v .long; few = v .few }) v
 held-after stop W v = record { long = v .long; few = v .few }
 held-after lookState W v = v
 held-after lookStats W v = v
