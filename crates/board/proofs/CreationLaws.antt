@@ -11,7 +11,7 @@ use lib.Seq.{take-suc-set, take-all}
 use Rattle.memory.specs.Blocks.{blocks}
 use Rattle.memory.specs.Cells.{wordAt, cellsIn, rowsIn, noRow}
 use Rattle.memory.specs.Halves.{halfAt, halvesIn}
-use Rattle.memory.specs.Lists.{listOf, listIn, room}
+use Rattle.tags.specs.Lists.{listOf, listIn, room}
 use Rattle.names.specs.Directory.{namesOf}
 use Rattle.ranks.specs.Ranks.{over, keysOf, wordsOf}
 use Rattle.table.specs.Tag.{freshTag}

@@ -10,7 +10,7 @@ use lib.IntN.{ℤ}
 use lib.ListN.{length}
 use Rattle.lists.specs.Sort.{byKeys}
 use Rattle.memory.specs.Halves.{halvesIn}
-use Rattle.memory.specs.Lists.{listIn, room}
+use Rattle.tags.specs.Lists.{listIn, room}
 use Rattle.table.specs.Table.{tableIn}
 use Rattle.table.specs.declared.tag.Tag.{Tag}
 use Rattle.lent.specs.Lent.{wroteAll}

@@ -9,8 +9,8 @@ use borrow.Rule.Slice.PartMut.{putMid, same-len-mid}
 use lib.ListN.{length, set, take}
 use lib.Seq.{take-take}
 use Rattle.memory.specs.Halves.{halvesIn}
-use Rattle.memory.specs.Lists.{listIn, room}
-use Rattle.memory.proofs.ListLaws.{room-same, places, recount, list-short, list-places}
+use Rattle.tags.specs.Lists.{listIn, room}
+use Rattle.tags.proofs.ListLaws.{room-same, places, recount, list-short, list-places}
 use Rattle.table.specs.Table.{tableIn}
 use Rattle.table.specs.declared.tag.Tag.{Tag}
 use Rattle.lent.specs.Lent.{overBytes}

@@ -8,7 +8,7 @@ use lib.IntN.{ℤ}
 use lib.ListN.{length, take}
 use Rattle.lists.specs.Sort.{byKeys}
 use Rattle.memory.specs.Halves.{halvesIn}
-use Rattle.memory.specs.Lists.{listIn, room}
+use Rattle.tags.specs.Lists.{listIn, room}
 use Rattle.table.specs.declared.tag.Tag.{Tag}
 use Rattle.tiers.specs.Tiers.{Table, tabled, tagAt}
 use Rattle.groups.specs.Groups.{Groups, grouped}

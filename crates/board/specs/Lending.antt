@@ -6,7 +6,7 @@ use borrow.Rule.Slice.PartMut.{putMid}
 use lib.Ieee.{Float}
 use Rattle.lists.specs.Sort.{byKeys}
 use Rattle.memory.specs.Halves.{halvesIn}
-use Rattle.memory.specs.Lists.{listIn}
+use Rattle.tags.specs.Lists.{listIn}
 use Rattle.tiers.specs.Tiers.{Table, tabled}
 use Rattle.rounds.specs.Round.{Round, round}
 use Rattle.rounds.specs.Memory.{pollingIn, roomsIn, Worked as Rounded}

@@ -87,5 +87,5 @@ pub fn in_tiers(board: &[u8]) -> usize
     requires { ⌜ length (now board) ≡ boardSize ⌝ }
     ensures { λ r. ⌜ r ≡ length (boardIn (now (board .entry)) .table .order) ⌝ }
 {
-    memory::tags::count(&board[256..512])
+    tags::count(&board[256..512])
 }

@@ -80,13 +80,13 @@ pub fn put_table(board: &[u8], out: &mut [u8]) -> usize
     ensures { λ r. ⌜ r ≡ length (boardIn (now (board .entry)) .table .order) ⌝ }
     ensures { λ _. ⌜ now (out .exit) ≡ wroteAll (now (out .entry)) (records (rowCells (boardIn (now (board .entry)))) (boardIn (now (board .entry)) .table .order)) ⌝ }
 {
-    let n = memory::tags::count(&board[256..512]);
+    let n = tags::count(&board[256..512]);
     if out.len() / 16 < n {
         return n;
     }
     let mut i: usize = 0;
     while i < n {
-        let k = memory::tags::at(&board[256..512], i);
+        let k = tags::at(&board[256..512], i);
         put_row(board, out, 2 * i, k);
         i += 1;
     }

@@ -4,10 +4,10 @@ ghost use mathlib.Core.Path.{_≡_};
 ghost use Prim.Native.Nat.{_+_, _≤_};
 ghost use lib.ListN.{length, take};
 ghost use borrow.Rule.Slice.PartMut.{putMid};
-ghost use Rattle.memory.specs.Lists.{listIn};
+ghost use Rattle.tags.specs.Lists.{listIn};
 ghost use Rattle.board.specs.Regions.{part, boardSize};
 use memory::halves::put_half;
-use memory::tags::count;
+use tags::count;
 
 fn copied(s: &[u8]) -> [u8; 256]
     requires { ⌜ length (now s) ≡ 256 ⌝ }

@@ -2,7 +2,7 @@
 ghost use mathlib.Core.Bool.{true, false};
 ghost use mathlib.Core.Path.{_≡_};
 ghost use lib.ListN.{length};
-ghost use Rattle.memory.specs.Lists.{listIn};
+ghost use Rattle.tags.specs.Lists.{listIn};
 ghost use Rattle.lent.specs.Lent.{wroteAll};
 ghost use Rattle.board.specs.Regions.{boardSize};
 ghost use Rattle.board.specs.Lending.{roundOn, RoundCall, Listed};
@@ -13,11 +13,11 @@ use super::parts::put_groups;
 use super::parts::put_part;
 use engine::Engine;
 use lent::changes::put_changes;
-use memory::tags::count;
 use rounds::round::CycleTags;
 use rounds::round::cycle_tags;
 use rounds::tick::Cycle;
 use rounds::tick::Options;
+use tags::count;
 
 // The round on the table in its place, and on copies of the other parts.
 fn poll_table(

@@ -6,7 +6,7 @@ ghost use Rattle.lent.specs.Lent.{wroteAll};
 ghost use Rattle.writes.specs.Queue.{queuedWith, popped, rest};
 ghost use Rattle.board.specs.Regions.{boardSize};
 ghost use Rattle.board.specs.Board.{boardIn, withQueue, queuedTags};
-use memory::tags::count;
+use tags::count;
 use writes::queue::Popped;
 use writes::queue::Write;
 

@@ -1,9 +1,9 @@
 // What cases have in common: tags entered, settings, results, readings and rounds.
 use memory::cells::put_cell;
-use memory::tags::contains;
-use memory::tags::push;
 use rounds::tick::Cycle;
 use rounds::tick::Options;
+use tags::contains;
+use tags::push;
 use values::error::Error;
 use values::error::ErrorKind;
 use values::error::TagError;

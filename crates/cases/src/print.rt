@@ -1,8 +1,8 @@
 // What the cases print.
 use libc::STDOUT_FILENO;
-use memory::tags::at;
-use memory::tags::count;
 use table::tag::Description;
+use tags::at;
+use tags::count;
 use values::entry::Held;
 use values::entry::Quality;
 use values::error::Error;

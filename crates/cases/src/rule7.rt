@@ -13,11 +13,11 @@ use super::print::held;
 use super::print::sent;
 use super::print::tags;
 use super::print::text;
-use memory::tags::push;
 use readings::listed::apply;
 use readings::stale::mark_stale;
 use table::fields::cached_of;
 use table::fields::published_of;
+use tags::push;
 use values::error::ErrorKind;
 use values::value::Value;
 

@@ -10,9 +10,9 @@ use lib.Seq.{take-suc, take-all, getD-drop, length-take-le}
 use Rattle.lists.specs.Keep.{Below}
 use Rattle.lists.proofs.KeepLaws.{below-append}
 use Rattle.memory.specs.Cells.{cellsIn}
-use Rattle.memory.specs.Lists.{listIn}
 use Rattle.memory.proofs.CellLaws.{length-cells, cells-put}
-use Rattle.memory.proofs.ListLaws.{list-below}
+use Rattle.tags.specs.Lists.{listIn}
+use Rattle.tags.proofs.ListLaws.{list-below}
 use Rattle.names.specs.Directory.{maxNames}
 use Rattle.values.specs.declared.entry.Entry.{Entry}
 use Rattle.words.specs.Entry.{entryFrom, heldWordsOf}

@@ -2,22 +2,22 @@
 ghost use mathlib.Core.Path.{_≡_};
 ghost use mathlib.Core.List.{map};
 ghost use lib.ListN.{getD};
-ghost use Rattle.memory.specs.Lists.{listIn, room};
+ghost use Rattle.tags.specs.Lists.{listIn, room};
 ghost use Rattle.table.specs.Tag.{freshTag};
 ghost use Rattle.table.specs.Table.{tableIn};
 ghost use Rattle.rounds.specs.Room.{fitted};
 ghost use Rattle.descriptions.specs.Descriptions.{isUnknown, isAsked, askedTags, unwanted, foundIn, learnt, learntNone};
 use memory::cells::cell;
-use memory::tags::at;
-use memory::tags::clear;
-use memory::tags::count;
-use memory::tags::push;
 use table::fields::description_of;
 use table::fields::put_description;
 use table::fields::put_wants;
 use table::fields::settings_of;
 use table::fields::wants_of;
 use table::tag::Description;
+use tags::at;
+use tags::clear;
+use tags::count;
+use tags::push;
 
 fn is_unknown(d: Description) -> bool
     ensures { λ r. ⌜ r ≡ isUnknown d ⌝ }

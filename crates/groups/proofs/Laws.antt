@@ -6,8 +6,8 @@ use lib.Dec.{ltb}
 use lib.Ieee.{binary64, ofBits}
 use lib.ListN.{getD, set, replicate}
 use Rattle.memory.specs.Cells.{rowsIn, noRow}
-use Rattle.memory.specs.Lists.{listIn, room}
 use Rattle.memory.proofs.RowLaws.{map-at, map-set}
+use Rattle.tags.specs.Lists.{listIn, room}
 use Rattle.groups.specs.Groups.{freshGroup, groupFrom, groupsIn, Groups, grouped}
 use Rattle.groups.specs.declared.group.Group.{Group}
 

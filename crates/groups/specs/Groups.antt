@@ -6,7 +6,7 @@ use lib.Dec.{ltb}
 use lib.Ieee.{Float, binary64, ofBits}
 use lib.ListN.{getD, set}
 use Rattle.memory.specs.Cells.{rowsIn}
-use Rattle.memory.specs.Lists.{listIn, room, pushed, member}
+use Rattle.tags.specs.Lists.{listIn, room, pushed, member}
 use Rattle.groups.specs.declared.group.Group.{Group}
 
 abbrev pub freshGroup : Group

@@ -32,7 +32,7 @@ pub fn note(s: &mut [u8], recorded: &mut [u8], g: u8, rate: u32, at: f64, first:
     let x = group_of(s, k);
     let y = group::read(x, rate, at, first);
     put_group(s, k, y);
-    if !memory::tags::contains(recorded, k) {
-        memory::tags::push(recorded, k);
+    if !tags::contains(recorded, k) {
+        tags::push(recorded, k);
     }
 }

@@ -2,7 +2,7 @@
 ghost use mathlib.Core.Path.{_≡_};
 ghost use Rattle.lists.specs.Sort.{byKeys};
 ghost use Rattle.memory.specs.Halves.{halvesIn};
-ghost use Rattle.memory.specs.Lists.{listIn};
+ghost use Rattle.tags.specs.Lists.{listIn};
 ghost use Rattle.names.specs.Directory.{namesOf};
 ghost use Rattle.ranks.specs.Ranks.{over, keysOf, wordsOf};
 ghost use Rattle.tiers.specs.Tiers.{tabled, setTier};

@@ -1,13 +1,13 @@
 // Changes: for each tag of a list, the tag and the six words of its published entry.
 ghost use mathlib.Core.Path.{_≡_};
-ghost use Rattle.memory.specs.Lists.{listIn};
+ghost use Rattle.tags.specs.Lists.{listIn};
 ghost use Rattle.table.specs.Table.{tableIn};
 ghost use Rattle.lent.specs.Lent.{recordPut, wroteAll, records};
 ghost use Rattle.lent.specs.Changes.{changeCells};
 use super::put_record;
-use memory::tags::at;
-use memory::tags::count;
 use table::fields::published_of;
+use tags::at;
+use tags::count;
 use words::entry::held_words;
 
 fn put_change(out: &mut [u8], i: usize, table: &[u8], k: usize)

@@ -3,10 +3,10 @@
 pub mod changes;
 
 ghost use mathlib.Core.Path.{_≡_};
-ghost use Rattle.memory.specs.Lists.{listIn};
+ghost use Rattle.tags.specs.Lists.{listIn};
 ghost use Rattle.lent.specs.Lent.{cellPut, recordPut, overBytes, wroteAll};
-use memory::tags::at;
-use memory::tags::count;
+use tags::at;
+use tags::count;
 
 // Cell i; past the last whole cell nothing is written.
 pub fn put_cell(out: &mut [u8], i: usize, v: u64)

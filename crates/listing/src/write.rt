@@ -5,7 +5,7 @@ ghost use mathlib.Core.Bool.{cond};
 ghost use mathlib.Core.List.{[], _∷_};
 ghost use Prim.Native.Nat.{_+_, _%_};
 ghost use lib.ListN.{length};
-ghost use Rattle.memory.specs.Lists.{listIn};
+ghost use Rattle.tags.specs.Lists.{listIn};
 ghost use Rattle.listing.specs.Write.{decimalOf, written, after, Put, fieldsOf, numbersOf, lineOf};
 
 // The last digit of n, as a byte.
@@ -111,14 +111,14 @@ fn put_head(out: &mut [u8], ms: u64, boundary: bool, count: u64) -> usize
 pub fn put_line(out: &mut [u8], ms: u64, boundary: bool, list: &[u8]) -> usize
     ensures { λ r. ⌜ Put (now (out .entry)) (now (out .exit)) (lineOf ms boundary (listIn (now (list .entry)))) r ⌝ }
 {
-    let count = memory::tags::count(list);
+    let count = tags::count(list);
     let mut at = put_head(out, ms, boundary, count as u64);
     if at == 0 {
         return 0;
     }
     let mut i = 0;
     while i < count {
-        let tag = memory::tags::at(list, i);
+        let tag = tags::at(list, i);
         let next = put_field(out, at, tag as u64);
         if next == at {
             return 0;

@@ -1,9 +1,7 @@
--- For callers: `RowLaws` (rows, and rows as a decoder reads them), `ListLaws` (lists of tag numbers), `LoopLaws` (loops that fill,
--- collect or replace). Below them: `BlockLaws`, `CellLaws`, `HalfLaws`, `RemoveLaws`.
+-- For callers: `RowLaws` (rows, and rows as a decoder reads them), `LoopLaws` (loops that fill or replace). Below them: `BlockLaws`,
+-- `CellLaws`, `HalfLaws`.
 pub mod BlockLaws
 pub mod CellLaws
 pub mod HalfLaws
-pub mod ListLaws
 pub mod LoopLaws
-pub mod RemoveLaws
 pub mod RowLaws

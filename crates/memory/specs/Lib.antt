@@ -2,4 +2,3 @@
 pub mod Blocks
 pub mod Cells
 pub mod Halves
-pub mod Lists

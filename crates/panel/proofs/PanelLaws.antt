@@ -10,7 +10,7 @@ use lib.Ieee.{Float}
 use lib.ListN.{length, getD, take, drop, length-take, length-drop, drop-of-length-le, List·getD-eq-default}
 use lib.Seq.{drop-cons, take-suc, getD-take, getD-drop}
 use borrow.Author.Tests.{eq-eqb, ne-eqb}
-use Rattle.memory.specs.Lists.{member}
+use Rattle.tags.specs.Lists.{member}
 use Rattle.tiers.specs.Tiers.{Table, setTier}
 use Rattle.panel.specs.Panel.{countIn, tagsOf, tiersOf, panelRoom, badTier, entryCheck, panelCheck, loaded}
 

@@ -13,7 +13,7 @@ use lib.Seq.{take-at, drop-at, take-all, getD-set-same, getD-set-other}
 use Rattle.lists.specs.Keep.{count, Below}
 use Rattle.lists.proofs.KeepLaws.{below-more, count-append}
 use Rattle.lists.proofs.CountLaws.{length-few}
-use Rattle.memory.specs.Lists.{member}
+use Rattle.tags.specs.Lists.{member}
 use Rattle.table.specs.Tag.{f0, freshTag, noGrace}
 use Rattle.table.specs.declared.tag.Tag.{Tag}
 use Rattle.table.specs.Table.{withGrace}

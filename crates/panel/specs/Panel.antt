@@ -6,7 +6,7 @@ use Prim.Native.Nat.{ℕ, _+_, _*_, _%_}
 use lib.Dec.{eqb, ltb, leb}
 use lib.Ieee.{Float}
 use lib.ListN.{length, getD, take, drop}
-use Rattle.memory.specs.Lists.{member}
+use Rattle.tags.specs.Lists.{member}
 use Rattle.table.specs.Tag.{freshTag}
 use Rattle.table.specs.declared.tag.Tag.{Tag}
 use Rattle.tiers.specs.Tiers.{Table, tagAt, setTier}

@@ -3,7 +3,7 @@ ghost use mathlib.Core.Path.{_≡_};
 ghost use mathlib.Core.List.{[]};
 ghost use Prim.Native.Nat.{_≤_};
 ghost use lib.ListN.{length, take};
-ghost use Rattle.memory.specs.Lists.{member};
+ghost use Rattle.tags.specs.Lists.{member};
 ghost use Rattle.panel.specs.Panel.{tagsOf, tiersOf, badTier, entryCheck, panelCheck};
 use super::form::byte;
 use super::form::entries;

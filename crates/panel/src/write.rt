@@ -1,12 +1,12 @@
 // Writing the panel list.
 ghost use mathlib.Core.Path.{_≡_};
 ghost use lib.ListN.{getD};
-ghost use Rattle.memory.specs.Lists.{listIn};
+ghost use Rattle.tags.specs.Lists.{listIn};
 ghost use Rattle.table.specs.Table.{tableIn};
 ghost use Rattle.panel.specs.Panel.{panelOf, written, writtenLength};
-use memory::tags::at;
-use memory::tags::count;
 use table::fields::tier_of;
+use tags::at;
+use tags::count;
 
 // The byte of the list at p; 0 past its end.
 fn byte_of(t: &[u8], order: &[u8], p: usize) -> u8

@@ -15,8 +15,8 @@ use lib.Seq.{getD-set-same, getD-set-other, ext-getD}
 use Rattle.lists.specs.Keep.{keep, count, Below, upTo}
 use Rattle.lists.proofs.KeepLaws.{keep-append, below-take}
 use Rattle.values.specs.declared.entry.TagResult.{TagResult}
-use Rattle.memory.specs.Lists.{listIn, room, pushed, member}
-use Rattle.memory.proofs.ListLaws.{pushed-more, list-below}
+use Rattle.tags.specs.Lists.{listIn, room, pushed, member}
+use Rattle.tags.proofs.ListLaws.{pushed-more, list-below}
 use Rattle.table.specs.Tag.{freshTag}
 use Rattle.table.specs.Table.{tableIn}
 use Rattle.table.specs.declared.tag.Tag.{Tag}

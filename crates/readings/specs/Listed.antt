@@ -8,7 +8,7 @@ use lib.Ieee.{Float}
 use lib.ListN.{take}
 use Rattle.lists.specs.Keep.{keep}
 use Rattle.values.specs.declared.entry.TagResult.{TagResult}
-use Rattle.memory.specs.Lists.{listIn, room, pushed, member}
+use Rattle.tags.specs.Lists.{listIn, room, pushed, member}
 use Rattle.table.specs.Table.{tableIn}
 use Rattle.table.specs.declared.tag.Tag.{Tag}
 use Rattle.rounds.specs.Added.{byRank}

@@ -7,7 +7,7 @@ use lib.IntN.{ℤ}
 use lib.Ieee.{Float}
 use lib.ListN.{take}
 use Rattle.values.specs.declared.entry.TagResult.{TagResult}
-use Rattle.memory.specs.Lists.{member}
+use Rattle.tags.specs.Lists.{member}
 use Rattle.table.specs.declared.tag.Tag.{Tag}
 use Rattle.rounds.specs.Added.{byRank}
 use Rattle.apply.specs.Apply.{appliedAt, sentAt}

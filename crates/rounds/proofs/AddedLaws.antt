@@ -12,8 +12,9 @@ use lib.ListN.{length, getD, set, take, drop, drop-of-length-le}
 use lib.Seq.{take-all, take-append-add, drop-cons, set-getD}
 use Rattle.lists.specs.Keep.{keep, Below}
 use Rattle.lists.proofs.KeepLaws.{keep-append, below-append, below-keep}
-use Rattle.memory.specs.Lists.{pushed, member}
-use Rattle.memory.proofs.LoopLaws.{pushed-clipped, mapped, mapped-read, mapped-more}
+use Rattle.memory.proofs.LoopLaws.{mapped, mapped-read, mapped-more}
+use Rattle.tags.specs.Lists.{pushed, member}
+use Rattle.tags.proofs.CollectLaws.{pushed-clipped}
 use Rattle.table.specs.Tag.{freshTag}
 use Rattle.table.specs.declared.tag.Tag.{Tag}
 use Rattle.rounds.specs.Added.{isAdded, anyAdded, settled}

@@ -16,7 +16,7 @@ use Rattle.lists.specs.Slices.{size, slice}
 use Rattle.lists.proofs.KeepLaws.{count-append, count-keep, count-keep-none, length-keep, below-append, below-keep, below-take, below-more}
 use Rattle.lists.proofs.CountLaws.{length-few}
 use Rattle.lists.proofs.SortLaws.{count-sort, below-sort}
-use Rattle.memory.specs.Lists.{member}
+use Rattle.tags.specs.Lists.{member}
 use Rattle.table.specs.Tag.{freshTag}
 use Rattle.table.specs.Table.{withLast}
 use Rattle.table.specs.declared.tag.Tag.{Tag}

@@ -6,8 +6,8 @@ use Prim.Native.Nat.{ℕ}
 use lib.Ieee.{Float, binary64, div}
 use lib.ListN.{length}
 use Rattle.ieee.specs.Round.{float, slicesOf}
-use Rattle.memory.specs.Lists.{listIn, room}
-use Rattle.memory.proofs.ListLaws.{room-same}
+use Rattle.tags.specs.Lists.{listIn, room}
+use Rattle.tags.proofs.ListLaws.{room-same}
 use Rattle.table.specs.Table.{tableIn}
 use Rattle.table.specs.declared.tag.Tag.{Tag}
 use Rattle.tiers.specs.Tiers.{Table, tabled}

@@ -4,7 +4,7 @@ use mathlib.Core.List.{List, [], _∷_, _++_}
 use Prim.Native.Nat.{ℕ, min}
 use lib.ListN.{length, getD}
 use Rattle.lists.specs.Keep.{keep, upTo}
-use Rattle.memory.specs.Lists.{member}
+use Rattle.tags.specs.Lists.{member}
 use Rattle.table.specs.Tag.{freshTag}
 use Rattle.table.specs.Table.{withAdded}
 use Rattle.table.specs.declared.tag.Tag.{Tag}

@@ -4,7 +4,7 @@ use mathlib.Core.List.{List}
 use mathlib.Core.Path.{_≡_}
 use Prim.Native.Nat.{ℕ}
 use lib.Ieee.{Float}
-use Rattle.memory.specs.Lists.{room}
+use Rattle.tags.specs.Lists.{room}
 use Rattle.tiers.specs.Tiers.{tabled}
 use Rattle.groups.specs.Groups.{grouped}
 use Rattle.rounds.specs.Round.{Polling, Rooms, Round}

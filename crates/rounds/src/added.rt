@@ -1,13 +1,13 @@
 // Tags new in tier 2.
 ghost use mathlib.Core.Path.{_≡_};
 ghost use mathlib.Core.List.{map};
-ghost use Rattle.memory.specs.Lists.{listIn, room};
+ghost use Rattle.tags.specs.Lists.{listIn, room};
 ghost use Rattle.table.specs.Table.{tableIn};
 ghost use Rattle.rounds.specs.Added.{anyAdded, byRank, withAddedTags, settled};
-use memory::tags::contains;
-use memory::tags::push;
 use table::fields::added_of;
 use table::fields::put_added;
+use tags::contains;
+use tags::push;
 
 // The tags new in tier 2 that `list` does not have, by tag number, after what it has. A list can hold
 // tags below 65536.

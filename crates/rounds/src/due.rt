@@ -1,21 +1,21 @@
 // The tier-1 tags that are due, and what is recorded of them.
 ghost use mathlib.Core.Path.{_≡_};
 ghost use lib.ListN.{getD};
-ghost use Rattle.memory.specs.Lists.{listIn, room};
+ghost use Rattle.tags.specs.Lists.{listIn, room};
 ghost use Rattle.table.specs.Tag.{freshTag};
 ghost use Rattle.table.specs.Table.{tableIn};
 ghost use Rattle.groups.specs.Groups.{grouped};
 ghost use Rattle.rounds.specs.Due.{isDue, dueTags, marked, recordedDue, noneSeen};
 use super::tick::rate_of;
 use groups::note;
-use memory::tags::at;
-use memory::tags::clear;
-use memory::tags::count;
-use memory::tags::push;
 use table::fields::put_last;
 use table::fields::settings_of;
 use table::fields::tier_of;
 use table::fields::timing_of;
+use tags::at;
+use tags::clear;
+use tags::count;
+use tags::push;
 
 // A tag that was never read is always due.
 pub fn is_tag_due(t: &[u8], k: usize, clock: f64, half: f64, cycle: f64) -> bool

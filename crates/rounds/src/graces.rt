@@ -1,14 +1,14 @@
 // Graces that run out at a boundary.
 ghost use mathlib.Core.Path.{_≡_};
-ghost use Rattle.memory.specs.Lists.{listIn, room};
+ghost use Rattle.tags.specs.Lists.{listIn, room};
 ghost use Rattle.table.specs.Table.{tableIn};
 ghost use Rattle.tiers.specs.Tiers.{tabled};
 ghost use Rattle.rounds.specs.Graces.{expired, runOut, expiredAt};
-use memory::tags::at;
-use memory::tags::clear;
-use memory::tags::count;
-use memory::tags::push;
 use table::fields::grace_of;
+use tags::at;
+use tags::clear;
+use tags::count;
+use tags::push;
 use tiers::set::set;
 
 // The tags whose grace has run out, in grace order, into `list`.

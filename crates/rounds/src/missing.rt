@@ -1,16 +1,16 @@
 // Tags held back as missing.
 ghost use mathlib.Core.Path.{_≡_};
 ghost use lib.ListN.{getD};
-ghost use Rattle.memory.specs.Lists.{listIn, room};
+ghost use Rattle.tags.specs.Lists.{listIn, room};
 ghost use Rattle.table.specs.Tag.{freshTag};
 ghost use Rattle.table.specs.Table.{tableIn};
 ghost use Rattle.rounds.specs.Missing.{isHeldBack, notHeldBack};
 use ieee::times::is_held_back;
-use memory::tags::at;
-use memory::tags::clear;
-use memory::tags::count;
-use memory::tags::push;
 use table::fields::timing_of;
+use tags::at;
+use tags::clear;
+use tags::count;
+use tags::push;
 
 fn is_tag_held_back(t: &[u8], k: usize, clock: f64) -> bool
     ensures { λ r. ⌜ r ≡ isHeldBack (getD (tableIn (now (t .entry))) k freshTag) clock ⌝ }

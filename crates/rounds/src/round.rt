@@ -3,7 +3,7 @@ ghost use mathlib.Core.Path.{_≡_};
 ghost use mathlib.Core.List.{map};
 ghost use Rattle.lists.specs.Sort.{byKeys};
 ghost use Rattle.memory.specs.Halves.{halvesIn};
-ghost use Rattle.memory.specs.Lists.{listIn, room};
+ghost use Rattle.tags.specs.Lists.{listIn, room};
 ghost use Rattle.table.specs.Table.{tableIn};
 ghost use Rattle.rounds.specs.Added.{byRank, withAddedTags, settled};
 ghost use Rattle.rounds.specs.Missing.{notHeldBack};

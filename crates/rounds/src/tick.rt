@@ -1,16 +1,16 @@
 // The tick of a round, and whether the round is at a boundary.
 ghost use mathlib.Core.Path.{_≡_};
-ghost use Rattle.memory.specs.Lists.{listIn};
+ghost use Rattle.tags.specs.Lists.{listIn};
 ghost use Rattle.table.specs.Table.{tableIn};
 ghost use Rattle.rounds.specs.Tick.{rateOf, tickOf, boundaryAt};
 use ieee::times::is_due;
 use ieee::times::lesser;
 use ieee::times::rate_seconds;
-use memory::tags::at;
-use memory::tags::count;
 use table::fields::settings_of;
 use table::fields::tier_of;
 use table::tag::Settings;
+use tags::at;
+use tags::count;
 
 // In seconds.
 pub struct Options {

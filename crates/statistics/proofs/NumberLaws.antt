@@ -12,8 +12,8 @@ use lib.Seq.{take-suc, getD-append-add}
 use Rattle.lists.specs.Keep.{keep, without, count, Below}
 use Rattle.lists.proofs.KeepLaws.{keep-append, count-without, count-without-other, below-keep, length-keep}
 use Rattle.lists.proofs.CountLaws.{length-few}
-use Rattle.memory.specs.Lists.{member}
 use Rattle.memory.proofs.RowLaws.{map-at}
+use Rattle.tags.specs.Lists.{member}
 use Rattle.settings.specs.Configured.{noGroup}
 use Rattle.settings.specs.declared.configured.Configured.{Configured}
 use Rattle.statistics.specs.Numbers.{firsts, isFirst, named}

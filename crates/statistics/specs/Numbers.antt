@@ -5,7 +5,7 @@ use Prim.Native.Nat.{ℕ}
 use lib.Dec.{ltb}
 use lib.ListN.{length, getD, take}
 use Rattle.lists.specs.Keep.{without}
-use Rattle.memory.specs.Lists.{member}
+use Rattle.tags.specs.Lists.{member}
 use Rattle.settings.specs.declared.configured.Configured.{Configured}
 
 -- each number of a list once, where it is named first

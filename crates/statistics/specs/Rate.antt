@@ -4,7 +4,7 @@ use mathlib.Core.List.{List, [], _∷_}
 use Prim.Native.Nat.{ℕ}
 use lib.Dec.{eqb}
 use lib.ListN.{getD}
-use Rattle.memory.specs.Lists.{member}
+use Rattle.tags.specs.Lists.{member}
 use Rattle.groups.specs.Groups.{freshGroup}
 use Rattle.groups.specs.declared.group.Group.{Group}
 use Rattle.settings.specs.declared.configured.Configured.{Configured}

@@ -3,7 +3,7 @@ use mathlib.Core.Bool.{cond}
 use mathlib.Core.List.{List, [], _∷_}
 use Prim.Native.Nat.{ℕ}
 use lib.ListN.{length, getD}
-use Rattle.memory.specs.Lists.{listIn}
+use Rattle.tags.specs.Lists.{listIn}
 use Rattle.table.specs.Table.{tableIn}
 use Rattle.table.specs.declared.tag.Tag.{Tag}
 use Rattle.groups.specs.Groups.{freshGroup, groupsIn}

@@ -1,14 +1,14 @@
 // Counts of the tags of the table order.
 ghost use mathlib.Core.Path.{_≡_};
 ghost use lib.ListN.{getD};
-ghost use Rattle.memory.specs.Lists.{listIn};
+ghost use Rattle.tags.specs.Lists.{listIn};
 ghost use Rattle.table.specs.Tag.{freshTag};
 ghost use Rattle.table.specs.Table.{tableIn};
 ghost use Rattle.statistics.specs.Counts.{tierCount, isInGroup, groupTags};
-use memory::tags::at;
-use memory::tags::count;
 use table::fields::settings_of;
 use table::fields::tier_of;
+use tags::at;
+use tags::count;
 
 pub fn tier_count(t: &[u8], order: &[u8], tier: u8) -> usize
     ensures { λ r. ⌜ r ≡ tierCount tier (tableIn (now (t .entry))) (listIn (now (order .entry))) ⌝ }

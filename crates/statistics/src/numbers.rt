@@ -1,13 +1,13 @@
 // Which groups there are: the configured ones, then the recorded ones. A number named again keeps its first place.
 ghost use mathlib.Core.Path.{_≡_};
 ghost use lib.ListN.{length, getD};
-ghost use Rattle.memory.specs.Lists.{listIn};
+ghost use Rattle.tags.specs.Lists.{listIn};
 ghost use Rattle.settings.specs.Configured.{configuredIn};
 ghost use Rattle.statistics.specs.Numbers.{named, isFirst, groupNumbers};
-use memory::tags::at;
-use memory::tags::count;
 use settings::configured::configured_at;
 use settings::configured::configured_count;
+use tags::at;
+use tags::count;
 
 pub fn number_at(configured: &[u8], recorded: &[u8], i: usize) -> usize
     ensures { λ r. ⌜ r ≡ getD (named (configuredIn (now (configured .entry))) (listIn (now (recorded .entry)))) i 0 ⌝ }

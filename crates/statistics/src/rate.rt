@@ -1,13 +1,13 @@
 // The rate of a group in milliseconds.
 ghost use mathlib.Core.Path.{_≡_};
-ghost use Rattle.memory.specs.Lists.{listIn};
+ghost use Rattle.tags.specs.Lists.{listIn};
 ghost use Rattle.groups.specs.Groups.{groupsIn};
 ghost use Rattle.settings.specs.Configured.{configuredIn};
 ghost use Rattle.statistics.specs.Rate.{lastRate, groupRate};
 use groups::group_of;
-use memory::tags::contains;
 use settings::configured::configured_at;
 use settings::configured::configured_count;
+use tags::contains;
 
 fn last_rate(configured: &[u8], group: usize) -> u32
     ensures { λ r. ⌜ r ≡ lastRate (configuredIn (now (configured .entry))) group ⌝ }

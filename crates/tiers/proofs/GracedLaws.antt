@@ -12,8 +12,8 @@ use lib.Seq.{getD-set-same, getD-set-other}
 use Rattle.lists.specs.Keep.{count, Below}
 use Rattle.lists.proofs.KeepLaws.{count-append, count-without, count-without-other}
 use Rattle.lists.proofs.CountLaws.{below-counts, length-few, length-fewer}
-use Rattle.memory.specs.Lists.{pushed}
-use Rattle.memory.proofs.ListLaws.{pushed-more}
+use Rattle.tags.specs.Lists.{pushed}
+use Rattle.tags.proofs.ListLaws.{pushed-more}
 use Rattle.table.specs.Tag.{f0, noGrace, freshTag}
 use Rattle.table.specs.Table.{withGrace}
 use Rattle.table.specs.declared.tag.Tag.{Tag}

@@ -7,7 +7,7 @@ use lib.Dec.{eqb}
 use lib.Ieee.{Float, le}
 use lib.ListN.{length}
 use Rattle.memory.specs.Halves.{halvesIn}
-use Rattle.memory.specs.Lists.{listIn, room}
+use Rattle.tags.specs.Lists.{listIn, room}
 use Rattle.values.specs.declared.entry.Held.the-variants.{None}
 use Rattle.table.specs.Tag.{f0, noTiming}
 use Rattle.table.specs.Table.{tableIn, withGrace, withTiming, withStanding, withoutLast, withoutReadings}

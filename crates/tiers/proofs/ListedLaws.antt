@@ -12,7 +12,7 @@ use lib.Seq.{getD-set-same, getD-set-other}
 use Rattle.lists.specs.Keep.{count, without, Below}
 use Rattle.lists.proofs.KeepLaws.{count-append, count-without, count-without-other, below-append, below-keep}
 use Rattle.lists.proofs.CountLaws.{below-counts, length-fewer}
-use Rattle.memory.specs.Lists.{pushed}
+use Rattle.tags.specs.Lists.{pushed}
 use Rattle.table.specs.Tag.{f0, noGrace, freshTag}
 use Rattle.table.specs.Table.{withGrace}
 use Rattle.table.specs.declared.tag.Grace.{Grace}

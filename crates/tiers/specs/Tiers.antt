@@ -7,7 +7,7 @@ use lib.Ieee.{Float, binary64, add, le}
 use lib.ListN.{getD, set}
 use Rattle.lists.specs.Keep.{without}
 use Rattle.memory.specs.Halves.{halvesIn}
-use Rattle.memory.specs.Lists.{listIn, room, pushed}
+use Rattle.tags.specs.Lists.{listIn, room, pushed}
 use Rattle.values.specs.declared.entry.Held.{Held}
 use Rattle.values.specs.declared.entry.Held.the-variants.{None}
 use Rattle.table.specs.Tag.{f0, noGrace, noTiming, freshTag}

@@ -1,13 +1,11 @@
 // A tag put in a tier at once.
 ghost use mathlib.Core.Path.{_≡_};
-ghost use Rattle.memory.specs.Lists.{listIn, room};
+ghost use Rattle.tags.specs.Lists.{listIn, room};
 ghost use lib.ListN.{getD, set};
 ghost use Rattle.table.specs.Tag.{freshTag};
 ghost use Rattle.table.specs.Table.{tableIn};
 ghost use Rattle.tiers.specs.Tiers.{tabled, addedFrom, wantsFrom, keptFor, orderSet, graceEnded, putTable, setTable};
 use memory::halves::half;
-use memory::tags::push;
-use memory::tags::remove;
 use table::fields::added_of;
 use table::fields::forget;
 use table::fields::forget_last;
@@ -16,6 +14,8 @@ use table::fields::put_standing;
 use table::fields::tier_of;
 use table::fields::wants_of;
 use table::tag::Grace;
+use tags::push;
+use tags::remove;
 
 // The tests below do not branch, as the tiers of calls follow no order that a processor could foresee.
 fn added_set(old: u8, added: bool, tier: u8) -> bool

@@ -10,7 +10,7 @@ use lib.Ieee.{Float, le, add, binary64}
 use lib.ListN.{length}
 use Rattle.lists.specs.Keep.{keep, Below}
 use Rattle.lists.proofs.KeepLaws.{below-append, below-keep, below-take}
-use Rattle.memory.specs.Lists.{pushed, member}
+use Rattle.tags.specs.Lists.{pushed, member}
 use Rattle.table.specs.Tag.{f0, noGrace}
 use Rattle.table.specs.declared.tag.Grace.{Grace}
 use Rattle.tiers.specs.Tiers.{Table, tagAt, orderSet, graceEnded, putTable, setTable, graceUntil, enterGrace, changeGrace, setTier}

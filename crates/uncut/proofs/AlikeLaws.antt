@@ -13,7 +13,7 @@ use Rattle.lists.specs.Sort.{byKeys}
 use Rattle.lent.specs.Changes.{changeCells}
 use Rattle.lent.specs.Lent.{records}
 use Rattle.lent.proofs.LentLaws.{length-records}
-use Rattle.memory.specs.Lists.{pushed, member}
+use Rattle.tags.specs.Lists.{pushed, member}
 use Rattle.table.specs.Tag.{freshTag}
 use Rattle.table.specs.Table.{withDescription}
 use Rattle.table.specs.declared.tag.Description.{Description}

@@ -13,9 +13,9 @@ use borrow.Author.Tests.{eqb-true, ne-eqb, leb-true}
 use Rattle.lists.specs.Keep.{keep, count, Below}
 use Rattle.lists.proofs.KeepLaws.{count-append, length-keep, length-upTo, below-append}
 use Rattle.lists.proofs.CountLaws.{length-fewer}
-use Rattle.memory.specs.Lists.{pushed, member}
-use Rattle.memory.proofs.ListLaws.{pushed-more}
 use Rattle.memory.proofs.RowLaws.{map-at}
+use Rattle.tags.specs.Lists.{pushed, member}
+use Rattle.tags.proofs.ListLaws.{pushed-more}
 use Rattle.table.specs.Tag.{freshTag, noSettings}
 use Rattle.table.specs.declared.tag.Settings.{Settings}
 use Rattle.table.specs.declared.tag.Tag.{Tag}

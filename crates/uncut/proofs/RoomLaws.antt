@@ -13,7 +13,7 @@ use Rattle.ieee.specs.Round.{float, slicesOf}
 use Rattle.lists.specs.Keep.{keep, count, Below}
 use Rattle.lists.specs.Sort.{sort}
 use Rattle.lists.proofs.CountLaws.{length-fewer}
-use Rattle.memory.specs.Lists.{pushed}
+use Rattle.tags.specs.Lists.{pushed}
 use Rattle.table.specs.Tag.{f0, noGrace, freshTag}
 use Rattle.table.specs.Table.{withGrace}
 use Rattle.table.specs.declared.tag.Grace.{Grace}

@@ -10,7 +10,7 @@ use lib.IntN.{ℤ}
 use lib.Ieee.{Float}
 use lib.ListN.{length, getD}
 use Rattle.lists.specs.Keep.{count}
-use Rattle.memory.specs.Lists.{listIn, room}
+use Rattle.tags.specs.Lists.{listIn, room}
 use Rattle.table.specs.Table.{tableIn}
 use Rattle.ranks.specs.Ranks.{over, wordsOf}
 use Rattle.ranks.proofs.WordLaws.{word-differs}

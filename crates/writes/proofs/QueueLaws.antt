@@ -10,10 +10,10 @@ use lib.Seq.{sets, take-all, take-nil, take-take, take-suc, take-suc-set, drop-d
 use Rattle.words.specs.Value.{valueFrom}
 use Rattle.memory.specs.Blocks.{blocks}
 use Rattle.memory.specs.Cells.{cellsIn}
-use Rattle.memory.specs.Lists.{pushed}
 use Rattle.memory.proofs.BlockLaws.{length-blocks, blocks-at, blocks-sets}
 use Rattle.memory.proofs.CellLaws.{length-cells}
-use Rattle.memory.proofs.LoopLaws.{pushed-clipped}
+use Rattle.tags.specs.Lists.{pushed}
+use Rattle.tags.proofs.CollectLaws.{pushed-clipped}
 use Rattle.writes.specs.Queue.{writeFrom, noWrite, queueRoom, placesIn, queueIn, queuedWith, popped, rest, writeTags}
 use Rattle.writes.specs.declared.queue.Write.{Write}
 use Rattle.writes.specs.declared.queue.Popped.the-variants.{Is}

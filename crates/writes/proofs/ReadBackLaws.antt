@@ -6,9 +6,9 @@ use native.Mathlib.Nat.{mod-eq-of-lt}
 use borrow.Author.Tests.{lt-ltb, le-ltb}
 use lib.ListN.{length, getD, take}
 use lib.Seq.{take-nil}
-use Rattle.memory.specs.Lists.{listIn, room, pushed}
-use Rattle.memory.proofs.ListLaws.{room-same}
-use Rattle.memory.proofs.LoopLaws.{pushed-clipped}
+use Rattle.tags.specs.Lists.{listIn, room, pushed}
+use Rattle.tags.proofs.ListLaws.{room-same}
+use Rattle.tags.proofs.CollectLaws.{pushed-clipped}
 use Rattle.writes.specs.ReadBack.{readBackTags}
 
 -- the tag, pushed onto a list that was cleared

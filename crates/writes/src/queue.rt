@@ -4,7 +4,7 @@ ghost use mathlib.Core.Path.{_≡_};
 ghost use mathlib.Core.List.{[]};
 ghost use Prim.Native.Nat.{_-_};
 ghost use lib.ListN.{length, getD, set, take};
-ghost use Rattle.memory.specs.Lists.{listIn, room};
+ghost use Rattle.tags.specs.Lists.{listIn, room};
 ghost use Rattle.rounds.specs.Room.{fitted};
 ghost use Rattle.writes.specs.Queue.{noWrite, queueRoom, placesIn, queueIn, queuedWith, popped, rest, writeTags, nextOf};
 use memory::cells::cell;
@@ -156,12 +156,12 @@ pub fn next_write(q: &mut [u8]) -> Next
 pub fn list_queued(q: &[u8], list: &mut [u8])
     ensures { λ _. ⌜ listIn (now (list .exit)) ≡ fitted (room (now (list .entry))) (writeTags (queueIn (now (q .entry)))) ⌝ }
 {
-    memory::tags::clear(list);
+    tags::clear(list);
     let n = queued(q);
     let mut i: usize = 0;
     while i < n {
         let w = place_at(q, i);
-        memory::tags::push(list, w.tag as usize);
+        tags::push(list, w.tag as usize);
         i += 1;
     }
 }

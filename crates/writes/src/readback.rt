@@ -1,13 +1,13 @@
 // What is read after a write that went through.
 ghost use mathlib.Core.Path.{_≡_};
 ghost use Rattle.memory.specs.Halves.{halvesIn};
-ghost use Rattle.memory.specs.Lists.{listIn, room};
+ghost use Rattle.tags.specs.Lists.{listIn, room};
 ghost use Rattle.rounds.specs.Room.{fitted};
 ghost use Rattle.writes.specs.ReadBack.{readBackTags, readBackValue, readBackFirst};
 use memory::halves::half;
-use memory::tags::clear;
-use memory::tags::push;
 use results::result::result_at;
+use tags::clear;
+use tags::push;
 use values::entry::TagResult;
 use values::entry::is_good;
 use values::entry::quality_of;

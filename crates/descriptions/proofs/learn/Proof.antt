@@ -8,8 +8,8 @@ use native.Mathlib.Omega.{arith}
 use denote.Ref.{now}
 use lib.ListN.{length, getD, take, drop, length-take}
 use lib.Seq.{getD-take}
-use Rattle.memory.specs.Lists.{listIn}
-use Rattle.memory.proofs.ListLaws.{list-short}
+use Rattle.tags.specs.Lists.{listIn}
+use Rattle.tags.proofs.ListLaws.{list-short}
 use Rattle.table.specs.Table.{tableIn}
 use Rattle.descriptions.specs.Descriptions.{foundCount, foundIn, knownFrom, learnt}
 use Rattle.descriptions.proofs.Laws.{known-more, known-end}

@@ -11,9 +11,9 @@ use lib.ListN.{length, getD, take}
 use lib.Seq.{take-nil}
 use Rattle.lists.specs.Keep.{keep, upTo}
 use Rattle.lists.proofs.KeepLaws.{length-upTo, upTo-at}
-use Rattle.memory.specs.Lists.{listIn, room, pushed}
-use Rattle.memory.proofs.ListLaws.{room-same}
-use Rattle.memory.proofs.LoopLaws.{clipped-yes, clipped-no, clipped-all}
+use Rattle.tags.specs.Lists.{listIn, room, pushed}
+use Rattle.tags.proofs.ListLaws.{room-same}
+use Rattle.tags.proofs.CollectLaws.{clipped-yes, clipped-no, clipped-all}
 use Rattle.table.specs.Tag.{freshTag}
 use Rattle.table.specs.Table.{tableIn}
 use Rattle.table.proofs.RowLaws.{length-table}

@@ -7,7 +7,7 @@ use native.Mathlib.Nat.{mod-eq-of-lt}
 use lib.ListN.{set}
 use Rattle.groups.specs.Groups.{groupsIn, groupRead, grouped, noted}
 use Rattle.groups.specs.declared.group.Group.{Group}
-use Rattle.memory.proofs.ListLaws.{room-same}
+use Rattle.tags.proofs.ListLaws.{room-same}
 use Rattle.groups.proofs.Laws.{grouped-is}
 use borrow.Author.Needs.{needs}
 use Rattle.groups.proofs.note.Statement.{statement}

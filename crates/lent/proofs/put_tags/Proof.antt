@@ -7,7 +7,7 @@ use native.Mathlib.Omega.{arith}
 use denote.Ref.{now}
 use lib.ListN.{length, getD, take}
 use lib.Seq.{take-all, take-suc, length-take-le}
-use Rattle.memory.specs.Lists.{listIn}
+use Rattle.tags.specs.Lists.{listIn}
 use Rattle.lent.specs.Lent.{cellPut, wroteCells}
 use Rattle.lent.proofs.LentLaws.{wrote-none, put-next, all-fits, all-kept}
 use borrow.Author.Needs.{needs}

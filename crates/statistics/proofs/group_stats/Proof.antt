@@ -7,7 +7,7 @@ use native.Mathlib.Omega.{arith}
 use denote.Ref.{now}
 use lib.ListN.{length, take, length-take}
 use lib.Seq.{take-all}
-use Rattle.memory.specs.Lists.{listIn}
+use Rattle.tags.specs.Lists.{listIn}
 use Rattle.settings.specs.Configured.{configuredIn}
 use Rattle.lent.specs.Lent.{wroteCells, recordPut, records}
 use Rattle.lent.proofs.LentLaws.{all-fits, all-kept}

@@ -3,7 +3,7 @@ use mathlib.Core.Path.{sym}
 use native.Mathlib.Omega.{arith}
 use denote.Ref.{now}
 use lib.Seq.{take-all}
-use Rattle.memory.specs.Lists.{listIn}
+use Rattle.tags.specs.Lists.{listIn}
 use Rattle.board.proofs.TalkLaws.{shortened}
 use borrow.Author.Needs.{needs}
 use Rattle.board.proofs.parts.shorten.Statement.{statement}

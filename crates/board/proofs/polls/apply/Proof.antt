@@ -6,7 +6,7 @@ use lib.IntN.{ℤ}
 use lib.ListN.{length-replicate}
 use mir.Syntax.{w64}
 use mir.ValLaws.{toZ-ofZ}
-use Rattle.memory.specs.Lists.{listIn}
+use Rattle.tags.specs.Lists.{listIn}
 use Rattle.board.specs.Board.{Changed, boardIn, appliedTo}
 use Rattle.board.specs.Lending.{Listed}
 use Rattle.board.proofs.PollLaws.{told}

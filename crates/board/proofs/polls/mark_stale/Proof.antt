@@ -3,7 +3,7 @@ use mathlib.Core.Path.{_∙_}
 use Prim.Native.Nat.{ℕ}
 use denote.Ref.{now}
 use lib.ListN.{length-replicate}
-use Rattle.memory.specs.Lists.{listIn}
+use Rattle.tags.specs.Lists.{listIn}
 use Rattle.board.specs.Board.{boardIn, staledIn}
 use Rattle.board.proofs.PollLaws.{told}
 use borrow.Author.Needs.{needs}

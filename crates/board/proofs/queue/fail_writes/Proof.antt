@@ -4,7 +4,7 @@ use mathlib.Core.List.{List, []}
 use Prim.Native.Nat.{ℕ}
 use denote.Ref.{now}
 use lib.ListN.{length, replicate}
-use Rattle.memory.specs.Lists.{listIn}
+use Rattle.tags.specs.Lists.{listIn}
 use Rattle.lent.specs.Lent.{wroteAll}
 use Rattle.board.specs.Board.{boardIn, queuedTags}
 use Rattle.board.proofs.TalkLaws.{queue-put, tags-queued}

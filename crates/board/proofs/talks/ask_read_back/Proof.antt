@@ -5,7 +5,7 @@ use Prim.Native.Nat.{ℕ}
 use denote.Ref.{now}
 use lib.ListN.{take}
 use Rattle.memory.specs.Halves.{halvesIn}
-use Rattle.memory.specs.Lists.{room}
+use Rattle.tags.specs.Lists.{room}
 use Rattle.writes.specs.ReadBack.{readBackTags}
 use Rattle.board.specs.Regions.{regionsIn, part}
 use Rattle.board.specs.Board.{boardIn, boardOf}

@@ -3,7 +3,7 @@ use mathlib.Core.Path.{ap, _∙_}
 use mathlib.Core.List.{List}
 use Prim.Native.Nat.{ℕ}
 use denote.Ref.{now}
-use Rattle.memory.specs.Lists.{listIn}
+use Rattle.tags.specs.Lists.{listIn}
 use Rattle.table.specs.Table.{tableIn}
 use Rattle.descriptions.specs.Descriptions.{learnt}
 use Rattle.board.specs.Regions.{regionsIn, part}

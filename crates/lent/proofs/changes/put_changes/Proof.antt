@@ -6,7 +6,7 @@ use native.Mathlib.Omega.{arith}
 use denote.Ref.{now}
 use lib.ListN.{length, take}
 use lib.Seq.{take-all}
-use Rattle.memory.specs.Lists.{listIn}
+use Rattle.tags.specs.Lists.{listIn}
 use Rattle.table.specs.Table.{tableIn}
 use Rattle.lent.specs.Lent.{wroteCells, recordPut, records}
 use Rattle.lent.specs.Changes.{changeCells}

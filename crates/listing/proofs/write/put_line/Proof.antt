@@ -4,7 +4,7 @@ use mathlib.Core.List.{[], _∷_}
 use Prim.Native.Nat.{ℕ, _-_, _+_, _≤_}
 use native.Mathlib.Omega.{arith}
 use lib.ListN.{length, getD}
-use Rattle.memory.specs.Lists.{listIn}
+use Rattle.tags.specs.Lists.{listIn}
 use Rattle.listing.specs.Write.{lineOf, written, after, Put}
 use Rattle.listing.proofs.Held.{Holds, holds-none, holds-more, holds-full, holds-since, holds-self, place-grows, holds-put, put-holds, put-not}
 use Rattle.listing.proofs.Joined.{later, soFar, head-some, so-far-more, so-far-all, so-far-within}

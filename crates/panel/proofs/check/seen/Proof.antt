@@ -6,8 +6,8 @@ use borrow.Author.Needs.{needs}
 use denote.Ref.{now}
 use lib.ListN.{length, take, drop}
 use lib.Seq.{getD-take, length-take-le}
-use Rattle.memory.specs.Lists.{member}
-use Rattle.memory.proofs.ListLaws.{member-yes, member-no, member-end}
+use Rattle.tags.specs.Lists.{member}
+use Rattle.tags.proofs.ListLaws.{member-yes, member-no, member-end}
 use Rattle.panel.specs.Panel.{tagsOf}
 use Rattle.panel.proofs.check.seen.Statement.{statement}
 use Rattle.panel.proofs.check.seen.Tie as tie

@@ -5,7 +5,7 @@ use native.Mathlib.Omega.{arith}
 use denote.Ref.{now}
 use lib.ListN.{getD}
 use Rattle.panel.proofs.WriteLaws.{panel-count, panel-tag, panel-tier, panel-past}
-use Rattle.memory.specs.Lists.{listIn}
+use Rattle.tags.specs.Lists.{listIn}
 use Rattle.table.specs.Table.{tableIn}
 use Rattle.panel.specs.Panel.{tierIn}
 use Prim.Native.Nat.{_%_}

@@ -6,8 +6,8 @@ use borrow.Author.Needs.{needs}
 use denote.Ref.{now}
 use lib.ListN.{length}
 use Rattle.panel.proofs.WriteLaws.{length-panel, short-length, short-kept, full-length, full-put}
-use Rattle.memory.specs.Lists.{listIn}
-use Rattle.memory.proofs.ListLaws.{list-short}
+use Rattle.tags.specs.Lists.{listIn}
+use Rattle.tags.proofs.ListLaws.{list-short}
 use Rattle.table.specs.Table.{tableIn}
 use Rattle.panel.specs.Panel.{panelOf}
 use lib.Seq.{paste, paste-zero}

@@ -3,9 +3,9 @@ use Rattle.readings.specs.Stale.{isStaled}
 use Rattle.table.proofs.RowLaws.{length-table}
 use Rattle.table.specs.Table.{tableIn}
 use Rattle.table.specs.Tag.{freshTag}
-use Rattle.memory.proofs.LoopLaws.{clipped-yes, clipped-no, clipped-all}
-use Rattle.memory.proofs.ListLaws.{room-same}
-use Rattle.memory.specs.Lists.{listIn, room, pushed}
+use Rattle.tags.proofs.CollectLaws.{clipped-yes, clipped-no, clipped-all}
+use Rattle.tags.proofs.ListLaws.{room-same}
+use Rattle.tags.specs.Lists.{listIn, room, pushed}
 use Rattle.lists.proofs.KeepLaws.{length-upTo, upTo-at}
 use Rattle.lists.specs.Keep.{keep, upTo}
 use lib.Seq.{take-nil}

@@ -9,8 +9,8 @@ use borrow.Author.Tests.{not-true, not-false}
 use denote.Ref.{now}
 use lib.ListN.{length, take}
 use Rattle.lists.specs.Keep.{keep}
-use Rattle.memory.specs.Lists.{listIn, room, pushed}
-use Rattle.memory.proofs.ListLaws.{room-same, list-short}
+use Rattle.tags.specs.Lists.{listIn, room, pushed}
+use Rattle.tags.proofs.ListLaws.{room-same, list-short}
 use Rattle.table.specs.Table.{tableIn}
 use Rattle.table.proofs.RowLaws.{length-table}
 use Rattle.rounds.specs.Added.{isAdded}

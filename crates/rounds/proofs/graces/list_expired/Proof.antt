@@ -9,9 +9,9 @@ use lib.Ieee.{le}
 use lib.ListN.{length, take}
 use lib.Seq.{take-nil}
 use Rattle.lists.specs.Keep.{keep}
-use Rattle.memory.specs.Lists.{listIn, room, pushed}
-use Rattle.memory.proofs.ListLaws.{list-small, room-same}
-use Rattle.memory.proofs.LoopLaws.{clipped-yes, clipped-no, clipped-all}
+use Rattle.tags.specs.Lists.{listIn, room, pushed}
+use Rattle.tags.proofs.ListLaws.{list-small, room-same}
+use Rattle.tags.proofs.CollectLaws.{clipped-yes, clipped-no, clipped-all}
 use Rattle.table.specs.Table.{tableIn}
 use Rattle.table.specs.declared.tag.Grace.{Grace}
 use Rattle.rounds.specs.Graces.{hasRunOut}

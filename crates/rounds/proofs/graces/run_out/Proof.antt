@@ -6,8 +6,8 @@ use native.Mathlib.Omega.{arith}
 use borrow.Author.Needs.{needs}
 use denote.Ref.{now}
 use lib.ListN.{length, drop}
-use Rattle.memory.specs.Lists.{listIn}
-use Rattle.memory.proofs.ListLaws.{list-small}
+use Rattle.tags.specs.Lists.{listIn}
+use Rattle.tags.proofs.ListLaws.{list-small}
 use Rattle.table.specs.declared.tag.Grace.{Grace}
 use Rattle.tiers.specs.Tiers.{Table, tabled, setTable}
 use Rattle.rounds.specs.Graces.{runOut}

@@ -11,9 +11,9 @@ use lib.Ieee.{Float}
 use lib.ListN.{length, getD, take}
 use lib.Seq.{take-nil}
 use Rattle.lists.specs.Keep.{keep}
-use Rattle.memory.specs.Lists.{listIn, room, pushed}
-use Rattle.memory.proofs.ListLaws.{room-same, list-small}
-use Rattle.memory.proofs.LoopLaws.{collect-none, clipped-yes, clipped-no, clipped-all}
+use Rattle.tags.specs.Lists.{listIn, room, pushed}
+use Rattle.tags.proofs.ListLaws.{room-same, list-small}
+use Rattle.tags.proofs.CollectLaws.{collect-none, clipped-yes, clipped-no, clipped-all}
 use Rattle.table.specs.Tag.{freshTag}
 use Rattle.table.specs.Table.{tableIn}
 use Rattle.rounds.specs.Missing.{isHeldBack}

@@ -2,8 +2,8 @@
 use mathlib.Core.Path.{_≡_, sym, _∙_}
 use mathlib.Core.Bool.{false}
 use denote.Ref.{now}
-use Rattle.memory.specs.Lists.{listIn, room}
-use Rattle.memory.proofs.ListLaws.{list-short}
+use Rattle.tags.specs.Lists.{listIn, room}
+use Rattle.tags.proofs.ListLaws.{list-short}
 use Rattle.table.specs.Table.{tableIn}
 use Rattle.rounds.specs.Added.{anyAdded, byRank}
 use Rattle.rounds.proofs.AddedLaws.{none-listed, none-settled}

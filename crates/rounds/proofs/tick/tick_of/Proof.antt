@@ -11,7 +11,7 @@ use lib.Dec.{eqb}
 use lib.Ieee.{Float}
 use lib.ListN.{drop}
 use Rattle.ieee.specs.Times.{least}
-use Rattle.memory.specs.Lists.{listIn}
+use Rattle.tags.specs.Lists.{listIn}
 use Rattle.table.specs.Table.{tableIn}
 use Rattle.table.specs.declared.tag.Settings.{Settings}
 use Rattle.rounds.specs.Tick.{rateOf, leastRate}

@@ -7,7 +7,7 @@ use native.Mathlib.Omega.{arith}
 use denote.Ref.{now}
 use lib.ListN.{length, take}
 use lib.Seq.{take-all}
-use Rattle.memory.specs.Lists.{listIn}
+use Rattle.tags.specs.Lists.{listIn}
 use Rattle.settings.specs.Configured.{configuredIn}
 use Rattle.statistics.specs.Numbers.{firsts, named}
 use Rattle.statistics.proofs.NumberLaws.{firsts-none, length-yes, firsts-no}

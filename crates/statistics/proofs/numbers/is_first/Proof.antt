@@ -7,8 +7,8 @@ use native.Mathlib.Omega.{arith}
 use denote.Ref.{now}
 use lib.ListN.{getD, take, drop}
 use lib.Seq.{getD-take, length-take-le}
-use Rattle.memory.specs.Lists.{listIn, member}
-use Rattle.memory.proofs.ListLaws.{member-yes, member-no, member-end}
+use Rattle.tags.specs.Lists.{listIn, member}
+use Rattle.tags.proofs.ListLaws.{member-yes, member-no, member-end}
 use Rattle.settings.specs.Configured.{configuredIn}
 use Rattle.statistics.specs.Numbers.{named}
 use Rattle.statistics.proofs.NumberLaws.{first-is, first-past}

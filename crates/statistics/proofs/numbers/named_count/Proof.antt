@@ -1,8 +1,8 @@
 -- `statistics::numbers::named_count` meets its contract.
 use native.Mathlib.Omega.{arith}
 use denote.Ref.{now}
-use Rattle.memory.specs.Lists.{listIn}
-use Rattle.memory.proofs.ListLaws.{list-short}
+use Rattle.tags.specs.Lists.{listIn}
+use Rattle.tags.proofs.ListLaws.{list-short}
 use Rattle.settings.specs.Configured.{configuredIn}
 use Rattle.settings.proofs.GroupLaws.{length-kept}
 use Rattle.statistics.proofs.NumberLaws.{length-named}

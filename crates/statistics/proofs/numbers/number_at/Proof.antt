@@ -2,7 +2,7 @@
 use mathlib.Core.Path.{ap, _∙_}
 use native.Mathlib.Omega.{arith}
 use denote.Ref.{now}
-use Rattle.memory.specs.Lists.{listIn}
+use Rattle.tags.specs.Lists.{listIn}
 use Rattle.settings.specs.Configured.{configuredIn}
 use Rattle.settings.specs.declared.configured.Configured.{Configured}
 use Rattle.statistics.proofs.NumberLaws.{named-configured, named-recorded}

@@ -3,7 +3,7 @@ use mathlib.Core.Path.{_≡_, ap, _∙_}
 use denote.Ref.{now}
 use Prim.Native.Nat.{_<_}
 use native.Mathlib.Nat.{mod-eq-of-lt}
-use Rattle.memory.specs.Lists.{listIn, room, pushed}
+use Rattle.tags.specs.Lists.{listIn, room, pushed}
 use Rattle.tiers.specs.Tiers.{Table, tabled, graceUntil, putTable, enterGrace}
 use Rattle.tiers.proofs.Laws.{same-room, tabled-is}
 use borrow.Author.Needs.{needs}

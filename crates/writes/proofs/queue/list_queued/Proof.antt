@@ -7,8 +7,8 @@ use native.Mathlib.Omega.{arith}
 use denote.Ref.{now}
 use lib.ListN.{length, take}
 use lib.Seq.{take-nil}
-use Rattle.memory.specs.Lists.{listIn, room, pushed}
-use Rattle.memory.proofs.ListLaws.{room-same}
+use Rattle.tags.specs.Lists.{listIn, room, pushed}
+use Rattle.tags.proofs.ListLaws.{room-same}
 use Rattle.writes.specs.Queue.{queueIn, writeTags}
 use Rattle.writes.proofs.QueueLaws.{queue-at, tags-more, tags-all}
 use Rattle.writes.proofs.queue.list_queued.Statement.{statement}

@@ -6,9 +6,9 @@ use native.Mathlib.Omega.{arith}
 use denote.Ref.{now}
 use lib.ListN.{getD}
 use Rattle.memory.specs.Halves.{halvesIn}
-use Rattle.memory.specs.Lists.{listIn, room, pushed}
 use Rattle.memory.proofs.HalfLaws.{half-small}
-use Rattle.memory.proofs.ListLaws.{room-same}
+use Rattle.tags.specs.Lists.{listIn, room, pushed}
+use Rattle.tags.proofs.ListLaws.{room-same}
 use Rattle.writes.proofs.ReadBackLaws.{pushed-first, read-back-word, read-back-tag}
 use borrow.Author.Needs.{needs}
 use Rattle.writes.proofs.readback.list_read_back.Statement.{statement}

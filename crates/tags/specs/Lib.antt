@@ -1,0 +1,2 @@
+-- Lists of tags in lent memory. Definitions only.
+pub mod Lists

@@ -1,0 +1,180 @@
+// Lists of tag numbers in halves: the count, then the places. Any bytes are some list.
+ghost use mathlib.Core.Path.{_≡_};
+ghost use mathlib.Core.List.{[], _++_};
+ghost use Prim.Native.Nat.{suc, _%_, _<_};
+ghost use lib.ListN.{length, getD, take, drop};
+ghost use Rattle.lists.specs.Keep.{without};
+ghost use Rattle.tags.specs.Lists.{listIn, room, pushed, insertedAt, member, Placed};
+use memory::bytes;
+use memory::halves;
+use std::num::wrapping_add_u16;
+
+// The stored count; where that is above the places there are, all of them. It is the lesser of the two in so many
+// words, so that a compiler knows that a place below it is within the slice.
+pub fn count(s: &[u8]) -> usize
+    ensures { λ r. ⌜ r ≡ length (listIn (now (s .entry))) ⌝ }
+{
+    let size = s.len() / 2;
+    if size == 0 {
+        return 0;
+    }
+    let n = halves::half(s, 0);
+    let places = size - 1;
+    if n < places {
+        return n;
+    }
+    places
+}
+
+// How many tags the slice has room for; the count has to fit its half too.
+pub fn room_of(s: &[u8]) -> usize
+    ensures { λ r. ⌜ r ≡ room (now (s .entry)) ⌝ }
+{
+    let size = s.len() / 2;
+    if size == 0 {
+        return 0;
+    }
+    if size - 1 < 65535 {
+        return size - 1;
+    }
+    65535
+}
+
+pub fn at(s: &[u8], i: usize) -> usize
+    ensures { λ r. ⌜ r ≡ getD (listIn (now (s .entry))) i 0 ⌝ }
+{
+    if i < count(s) {
+        return halves::half(s, i + 1);
+    }
+    0
+}
+
+pub fn clear(s: &mut [u8])
+    ensures { λ _. ⌜ listIn (now (s .exit)) ≡ [] ⌝ }
+{
+    halves::put_half(s, 0, 0);
+}
+
+// One tag more at the end; a full list stays.
+pub fn push(s: &mut [u8], k: usize)
+    ensures { λ _. ⌜ listIn (now (s .exit)) ≡ pushed (room (now (s .entry))) (listIn (now (s .entry))) (k % 65536) ⌝ }
+{
+    let n = count(s);
+    if n < room_of(s) {
+        halves::put_half(s, n + 1, k);
+        halves::put_half(s, 0, n + 1);
+    }
+}
+
+pub fn contains(s: &[u8], k: usize) -> bool
+    ensures { λ r. ⌜ r ≡ member k (listIn (now (s .entry))) ⌝ }
+{
+    let n = count(s);
+    let mut i: usize = 0;
+    while i < n {
+        if bytes::half(s, i + 1) == k {
+            return true;
+        }
+        i += 1;
+    }
+    false
+}
+
+// How many places hold a tag, and the sum of these places modulo 65536: of one place the place.
+struct Places {
+    hits: u16,
+    sum: u16,
+}
+
+// One loop without a branch, which a compiler makes vector code of.
+fn places_of(s: &[u8], k: usize) -> Places
+    ensures { λ r. ⌜ Placed k (listIn (now (s .entry))) (r .hits) (r .sum) ⌝ }
+{
+    let n = count(s);
+    let mut hits: u16 = 0;
+    let mut sum: u16 = 0;
+    let mut i: usize = 0;
+    while i < n {
+        let same = bytes::half(s, i + 1) == k;
+        hits += same as u16;
+        let here = if same { i as u16 } else { 0 };
+        sum = wrapping_add_u16(sum, here);
+        i += 1;
+    }
+    Places {
+        hits: hits,
+        sum: sum,
+    }
+}
+
+// The tags behind place p move down, byte by byte: a compiler makes one move of it.
+fn remove_at(s: &mut [u8], p: usize)
+    requires { ⌜ p < length (listIn (now s)) ⌝ }
+    ensures { λ _. ⌜ listIn (now (s .exit)) ≡ take p (listIn (now (s .entry))) ++ drop (suc p) (listIn (now (s .entry))) ⌝ }
+{
+    let n = count(s);
+    let end = 2 * n;
+    let mut i = 2 * p + 2;
+    while i < end {
+        s[i] = s[i + 2];
+        i += 1;
+    }
+    halves::put_half(s, 0, n - 1);
+}
+
+// Any number of places with k: the others keep their order and move down, place j takes the next one that stays.
+fn remove_each(s: &mut [u8], k: usize)
+    ensures { λ _. ⌜ listIn (now (s .exit)) ≡ without k (listIn (now (s .entry))) ⌝ }
+{
+    let n = count(s);
+    let mut j: usize = 0;
+    let mut i: usize = 0;
+    while i < n {
+        let x = bytes::half(s, i + 1);
+        if x != k {
+            bytes::put_half(s, j + 1, x);
+            j += 1;
+        }
+        i += 1;
+    }
+    halves::put_half(s, 0, j);
+}
+
+// A list names a tag once at most, as long as nobody damaged it.
+pub fn remove(s: &mut [u8], k: usize)
+    ensures { λ _. ⌜ listIn (now (s .exit)) ≡ without k (listIn (now (s .entry))) ⌝ }
+{
+    let found = places_of(s, k);
+    if found.hits == 0 {
+        return;
+    }
+    if found.hits == 1 {
+        remove_at(s, found.sum as usize);
+        return;
+    }
+    remove_each(s, k);
+}
+
+// One tag more at place p: each from p on takes the place of the next. A full list stays, and so does one
+// that ends before p.
+pub fn insert_at(s: &mut [u8], p: usize, k: usize)
+    ensures { λ _. ⌜ listIn (now (s .exit)) ≡ insertedAt (room (now (s .entry))) p (k % 65536) (listIn (now (s .entry))) ⌝ }
+{
+    let n = count(s);
+    if n < p {
+        return;
+    }
+    if room_of(s) <= n {
+        return;
+    }
+    let mut x = k;
+    let mut i = p;
+    while i < n {
+        let next = bytes::half(s, i + 1);
+        bytes::put_half(s, i + 1, x);
+        x = next;
+        i += 1;
+    }
+    bytes::put_half(s, n + 1, x);
+    bytes::put_half(s, 0, n + 1);
+}
