@@ -23,21 +23,21 @@ pub fn tier_of(board: &[u8], k: usize) -> u8
     requires { ⌜ length (now board) ≡ boardSize ⌝ }
     ensures { λ r. ⌜ r ≡ tagAt (boardIn (now (board .entry)) .table) k .tier ⌝ }
 {
-    table::fields::tier_of(&board[7424..38144], k)
+    fields::tier_of(&board[7424..38144], k)
 }
 
 pub fn cached_of(board: &[u8], k: usize) -> Held
     requires { ⌜ length (now board) ≡ boardSize ⌝ }
     ensures { λ r. ⌜ r ≡ tagAt (boardIn (now (board .entry)) .table) k .cached ⌝ }
 {
-    table::fields::cached_of(&board[7424..38144], k)
+    entries::cached_of(&board[7424..38144], k)
 }
 
 pub fn description_of(board: &[u8], k: usize) -> Description
     requires { ⌜ length (now board) ≡ boardSize ⌝ }
     ensures { λ r. ⌜ r ≡ tagAt (boardIn (now (board .entry)) .table) k .description ⌝ }
 {
-    table::fields::description_of(&board[7424..38144], k)
+    fields::description_of(&board[7424..38144], k)
 }
 
 // Rule 11: the panel list.

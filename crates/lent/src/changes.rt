@@ -5,7 +5,7 @@ ghost use Rattle.table.specs.Table.{tableIn};
 ghost use Rattle.lent.specs.Lent.{recordPut, wroteAll, records};
 ghost use Rattle.lent.specs.Changes.{changeCells};
 use super::put_record;
-use table::fields::published_of;
+use entries::published_of;
 use tags::at;
 use tags::count;
 use words::entry::held_words;

@@ -4,7 +4,7 @@ ghost use lib.ListN.{getD};
 ghost use Rattle.tags.specs.Lists.{listIn};
 ghost use Rattle.table.specs.Table.{tableIn};
 ghost use Rattle.panel.specs.Panel.{panelOf, written, writtenLength};
-use table::fields::tier_of;
+use fields::tier_of;
 use tags::at;
 use tags::count;
 

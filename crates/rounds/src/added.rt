@@ -4,8 +4,8 @@ ghost use mathlib.Core.List.{map};
 ghost use Rattle.tags.specs.Lists.{listIn, room};
 ghost use Rattle.table.specs.Table.{tableIn};
 ghost use Rattle.rounds.specs.Added.{anyAdded, byRank, withAddedTags, settled};
-use table::fields::added_of;
-use table::fields::put_added;
+use fields::added_of;
+use fields::put_added;
 use tags::contains;
 use tags::push;
 

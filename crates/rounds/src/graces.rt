@@ -4,7 +4,7 @@ ghost use Rattle.tags.specs.Lists.{listIn, room};
 ghost use Rattle.table.specs.Table.{tableIn};
 ghost use Rattle.tiers.specs.Tiers.{tabled};
 ghost use Rattle.rounds.specs.Graces.{expired, runOut, expiredAt};
-use table::fields::grace_of;
+use fields::grace_of;
 use tags::at;
 use tags::clear;
 use tags::count;

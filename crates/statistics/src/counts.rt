@@ -5,8 +5,8 @@ ghost use Rattle.tags.specs.Lists.{listIn};
 ghost use Rattle.table.specs.Tag.{freshTag};
 ghost use Rattle.table.specs.Table.{tableIn};
 ghost use Rattle.statistics.specs.Counts.{tierCount, isInGroup, groupTags};
-use table::fields::settings_of;
-use table::fields::tier_of;
+use fields::settings_of;
+use fields::tier_of;
 use tags::at;
 use tags::count;
 

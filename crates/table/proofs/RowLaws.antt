@@ -1,21 +1,13 @@
--- The table in terms of its rows, and what one cell of a row changes in its tag.
-use mathlib.Core.Path.{_≡_, refl, ap, sym, _∙_, subst}
+-- The table in terms of its rows, and cells of a row put one after the other.
+use mathlib.Core.Path.{_≡_, refl, ap, sym, _∙_}
 use mathlib.Core.List.{List, [], _∷_, map}
-use Prim.Native.Nat.{ℕ, zero, suc, _/_, _%_}
-use native.Mathlib.Omega.{arith}
-use lib.Dec.{ltb}
-use lib.Ieee.{binary64, ofBits}
-use lib.ListN.{length, getD, set, drop, length-map}
+use Prim.Native.Nat.{ℕ, zero, suc, _/_}
+use lib.ListN.{length, getD, set, length-map}
 use Rattle.memory.specs.Cells.{rowsIn, noRow}
-use Rattle.memory.proofs.RowLaws.{length-rows, map-at, map-set, row-long, spread, spread-is}
+use Rattle.memory.proofs.RowLaws.{length-rows, map-at, map-set}
 use Rattle.table.specs.Tag.{freshTag}
-use Rattle.values.specs.declared.entry.Entry.{Entry}
-use Rattle.values.specs.declared.entry.Held.the-variants.{Is}
-use Rattle.words.specs.Entry.{heldFrom}
-use Rattle.words.specs.declared.entry.EntryWords.{EntryWords}
-use Rattle.table.specs.Row.{graceFrom, descriptionFrom, withEntryWords, tagFrom}
-use Rattle.table.specs.Table.{tableIn, withLast, withMark, withAdded, withWants, withDescription, withAfter, withStanding, withCached, withPublished, withoutLast, withoutReadings}
-use Rattle.table.specs.declared.tag.Tag.{Tag}
+use Rattle.table.specs.Row.{tagFrom}
+use Rattle.table.specs.Table.{tableIn}
 
 -- a row of zeros is a fresh tag
 fresh-row : tagFrom noRow ≡ freshTag
@@ -35,55 +27,6 @@ pub set-again : {A : Type 0} (f : A → A) (l : List A) (k : ℕ) (a d : A) → 
 set-again f [] k a d = refl
 set-again f (x ∷ l) zero a d = refl
 set-again f (x ∷ l) (suc k) a d = ap (λ (r : List _). x ∷ r) (set-again f l k a d)
-
--- ---- a row with some cells replaced
-
-module _ (w : List ℕ) (h : length w ≡ 32) where
-  pub added-put : (v : ℕ) → tagFrom (set w 8 v) ≡ withAdded (tagFrom w) (ltb 0 v)
-  unfolding tagFrom spread
-  added-put v = subst (λ (r : List ℕ). tagFrom (set r 8 v) ≡ withAdded (tagFrom r) (ltb 0 v)) (spread-is 32 w h) refl
-
-  pub last-put : (v : ℕ) → tagFrom (set (set w 4 1) 5 v) ≡ withLast (tagFrom w) (ofBits binary64 v)
-  unfolding tagFrom spread
-  last-put v = subst (λ (r : List ℕ). tagFrom (set (set r 4 1) 5 v) ≡ withLast (tagFrom r) (ofBits binary64 v)) (spread-is 32 w h) refl
-
-  pub mark-put : (u v : ℕ) → tagFrom (set (set w 6 u) 7 v) ≡ withMark (tagFrom w) (ltb 0 u) (ofBits binary64 v)
-  unfolding tagFrom spread
-  mark-put u v = subst (λ (r : List ℕ). tagFrom (set (set r 6 u) 7 v) ≡ withMark (tagFrom r) (ltb 0 u) (ofBits binary64 v)) (spread-is 32 w h) refl
-
-  pub wants-put : (v : ℕ) → tagFrom (set w 9 v) ≡ withWants (tagFrom w) (ltb 0 v)
-  unfolding tagFrom spread
-  wants-put v = subst (λ (r : List ℕ). tagFrom (set r 9 v) ≡ withWants (tagFrom r) (ltb 0 v)) (spread-is 32 w h) refl
-
-  pub description-put : (v : ℕ) → tagFrom (set w 10 v) ≡ withDescription (tagFrom w) (descriptionFrom v)
-  unfolding tagFrom spread
-  description-put v = subst (λ (r : List ℕ). tagFrom (set r 10 v) ≡ withDescription (tagFrom r) (descriptionFrom v)) (spread-is 32 w h) refl
-
-  pub after-put : (v : ℕ) → tagFrom (set (set w 1 1) 3 v) ≡ withAfter (tagFrom w) (v % 256)
-  unfolding tagFrom spread
-  after-put v = subst (λ (r : List ℕ). tagFrom (set (set r 1 1) 3 v) ≡ withAfter (tagFrom r) (v % 256)) (spread-is 32 w h) refl
-
-  pub standing-put : (tier on deadline after added wants : ℕ)
-      → tagFrom (set (set (set (set (set (set w 0 tier) 1 on) 2 deadline) 3 after) 8 added) 9 wants)
-      ≡ withStanding (tagFrom w) (tier % 256) (graceFrom on deadline after) (ltb 0 added) (ltb 0 wants)
-  unfolding tagFrom spread
-  standing-put tier on deadline after added wants = subst (λ (r : List ℕ). tagFrom (set (set (set (set (set (set r 0 tier) 1 on) 2 deadline) 3 after) 8 added) 9 wants) ≡ withStanding (tagFrom r) (tier % 256) (graceFrom on deadline after) (ltb 0 added) (ltb 0 wants)) (spread-is 32 w h) refl
-
-  pub cached-put : (v : EntryWords) (e : Entry) → heldFrom v ≡ Is e → tagFrom (withEntryWords w 16 v) ≡ withCached (tagFrom w) e
-  unfolding tagFrom spread
-  cached-put v e f = subst (λ (r : List ℕ). tagFrom (withEntryWords r 16 v) ≡ withCached (tagFrom r) e) (spread-is 32 w h) (rw f)
-
-  pub published-put : (v : EntryWords) (e : Entry) → heldFrom v ≡ Is e → tagFrom (withEntryWords w 22 v) ≡ withPublished (tagFrom w) e
-  unfolding tagFrom spread
-  published-put v e f = subst (λ (r : List ℕ). tagFrom (withEntryWords r 22 v) ≡ withPublished (tagFrom r) e) (spread-is 32 w h) (rw f)
-
-  pub last-forgotten : tagFrom (set (set w 4 0) 5 0) ≡ withoutLast (tagFrom w)
-  unfolding tagFrom spread
-  last-forgotten = subst (λ (r : List ℕ). tagFrom (set (set r 4 0) 5 0) ≡ withoutLast (tagFrom r)) (spread-is 32 w h) refl
-
-  pub readings-forgotten : tagFrom (set (set (set (set (set (set w 4 0) 5 0) 6 0) 7 0) 16 0) 22 0) ≡ withoutReadings (tagFrom w)
-  unfolding tagFrom spread
-  readings-forgotten = subst (λ (r : List ℕ). tagFrom (set (set (set (set (set (set r 4 0) 5 0) 6 0) 7 0) 16 0) 22 0) ≡ withoutReadings (tagFrom r)) (spread-is 32 w h) refl
 
 -- a row put and then a cell of it
 pub rows-put-more : (old mid new w : List ℕ) (k j v : ℕ)

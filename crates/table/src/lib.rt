@@ -1,6 +1,5 @@
 // The record of a tag, and the table of tags in lent memory: a row of 32 cells for each tag.
 pub mod codec;
-pub mod fields;
 pub mod tag;
 
 ghost use mathlib.Core.Path.{_≡_};

@@ -4,9 +4,9 @@ ghost use Rattle.tiers.specs.Tiers.{tabled, enterGrace, changeGrace, cha
 ghost use Rattle.table.specs.Table.{tableIn};
 use super::set::put;
 use super::set::set;
-use table::fields::grace_of;
-use table::fields::put_after;
-use table::fields::tier_of;
+use fields::grace_of;
+use fields::put_after;
+use fields::tier_of;
 use table::tag::Grace;
 use tags::push;
 

@@ -1,0 +1,2 @@
+-- What the cells of an entry hold of a tag.
+pub mod EntryLaws

@@ -1,0 +1,2 @@
+-- What cells of a row hold of a tag.
+pub mod FieldLaws
