@@ -11,8 +11,8 @@ use Rattle.lists.specs.Sort.{sort, byKeys}
 use Rattle.ieee.specs.Round.{slicesOf}
 use Rattle.names.specs.Directory.{namesOf}
 use Rattle.names.specs.Keys.{byName}
+use Rattle.slices.specs.Slice.{tier2Tags}
 use Rattle.rounds.specs.Round.{Round}
-use Rattle.rounds.specs.Slice.{tier2Tags}
 use Rattle.rounds.specs.declared.tick.Options.{Options}
 use Rattle.board.specs.Creation.{noNumbers}
 use Rattle.worker.specs.Worker.{Worker, At, Told, at}

@@ -16,7 +16,7 @@ use Rattle.ieee.proofs.Order.{yes, no, le-trans-float, le-refl-float, not-lt→
 use Rattle.ieee.proofs.Finite.{clock-finite}
 use Rattle.ranks.specs.Ranks.{over, keysOf}
 use Rattle.tiers.specs.Listed.{Listed, inTier}
-use Rattle.rounds.specs.Slice.{isTier2, tier2Tags}
+use Rattle.slices.specs.Slice.{isTier2, tier2Tags}
 use Rattle.rounds.specs.Round.{Round, Rooms, Polling, round}
 use Rattle.rounds.specs.declared.tick.Options.{Options}
 use Rattle.rounds.specs.declared.tick.Cycle.{Cycle}
