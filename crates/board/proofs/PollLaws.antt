@@ -16,7 +16,7 @@ use Rattle.table.specs.declared.tag.Tag.{Tag}
 use Rattle.lent.specs.Lent.{wroteAll}
 use Rattle.readings.specs.Listed.{Applying, AppliedAll, applyAll, inTagOrder}
 use Rattle.readings.specs.Stale.{tagStale, staledTags}
-use Rattle.rounds.specs.Room.{fitted}
+use Rattle.slices.specs.Room.{fitted}
 use Rattle.rounds.specs.Round.{Polling, Round, round}
 use Rattle.rounds.specs.Memory.{pollingIn, roomsIn, Worked as Rounded}
 use Rattle.rounds.specs.declared.tick.Options.{Options}

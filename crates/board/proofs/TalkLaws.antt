@@ -14,7 +14,7 @@ use Rattle.tags.proofs.ListLaws.{room-same, places, recount, list-short, list-p
 use Rattle.table.specs.Table.{tableIn}
 use Rattle.table.specs.declared.tag.Tag.{Tag}
 use Rattle.lent.specs.Lent.{overBytes}
-use Rattle.rounds.specs.Room.{fitted}
+use Rattle.slices.specs.Room.{fitted}
 use Rattle.results.specs.Results.{resultCount}
 use Rattle.descriptions.specs.Descriptions.{askedTags, unwanted}
 use Rattle.versions.specs.Versions.{versionTable}

@@ -14,7 +14,7 @@ use Rattle.tiers.specs.Tiers.{Table, tabled, tagAt}
 use Rattle.groups.specs.Groups.{Groups, grouped}
 use Rattle.lent.specs.Lent.{records, overBytes, wroteAll}
 use Rattle.lent.specs.Changes.{changeCells}
-use Rattle.rounds.specs.Room.{fitted}
+use Rattle.slices.specs.Room.{fitted}
 use Rattle.rounds.specs.Round.{Polling, Round, round, withTags}
 use Rattle.rounds.specs.declared.tick.Options.{Options}
 use Rattle.rounds.specs.declared.round.CycleTags.{CycleTags}

@@ -2,13 +2,13 @@
 ghost use mathlib.Core.Path.{_≡_};
 ghost use lib.ListN.{length};
 ghost use Rattle.board.specs.Board.{Board};
-ghost use Rattle.worker.specs.Worker.{worker};
+ghost use Rattle.replies.specs.Worker.{worker};
 ghost use Rattle.capi.specs.Memory.{memorySize, workerIn};
 ghost use Rattle.capi.specs.Calls.{clockCheck, tierCheck, loadCheck, writeCheck};
 use super::whole::head_of;
 use engine::Engine;
-use engine::link::State;
-use engine::link::is_state;
+use heads::link::State;
+use heads::link::is_state;
 use ieee::times::is_clock;
 use results::check::is_finite_value;
 use values::value::Value;

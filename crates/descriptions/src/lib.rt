@@ -5,7 +5,7 @@ ghost use lib.ListN.{getD};
 ghost use Rattle.tags.specs.Lists.{listIn, room};
 ghost use Rattle.table.specs.Tag.{freshTag};
 ghost use Rattle.table.specs.Table.{tableIn};
-ghost use Rattle.rounds.specs.Room.{fitted};
+ghost use Rattle.slices.specs.Room.{fitted};
 ghost use Rattle.descriptions.specs.Descriptions.{isUnknown, isAsked, askedTags, unwanted, foundIn, learnt, learntNone};
 use fields::description_of;
 use fields::put_description;

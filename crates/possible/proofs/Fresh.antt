@@ -28,8 +28,8 @@ use Rattle.settings.specs.Records as settings-Records
 use Rattle.settings.specs.Settings as settings-Settings
 use Rattle.settings.specs.Configured as settings-Configured
 use Rattle.versions.specs.Versions as versions-Versions
-use Rattle.engine.specs.Progress as engine-Progress
-use Rattle.engine.specs.Stats as engine-Stats
+use Rattle.heads.specs.Progress as engine-Progress
+use Rattle.heads.specs.Stats as engine-Stats
 use Rattle.engine.specs.Engine as engine-Engine
 use Rattle.writes.specs.Queue as writes-Queue
 use Rattle.board.specs.Regions as board-Regions

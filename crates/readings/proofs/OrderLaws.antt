@@ -20,7 +20,7 @@ use Rattle.tags.proofs.ListLaws.{pushed-more, list-below}
 use Rattle.table.specs.Tag.{freshTag}
 use Rattle.table.specs.Table.{tableIn}
 use Rattle.table.specs.declared.tag.Tag.{Tag}
-use Rattle.rounds.specs.Room.{fitted}
+use Rattle.slices.specs.Room.{fitted}
 use Rattle.rounds.specs.Added.{byRank}
 use Rattle.rounds.specs.Round.{Polling, Rooms, round}
 use Rattle.rounds.specs.declared.tick.Options.{Options}

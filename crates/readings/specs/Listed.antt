@@ -11,8 +11,8 @@ use Rattle.values.specs.declared.entry.TagResult.{TagResult}
 use Rattle.tags.specs.Lists.{listIn, room, pushed, member}
 use Rattle.table.specs.Table.{tableIn}
 use Rattle.table.specs.declared.tag.Tag.{Tag}
+use Rattle.slices.specs.Room.{fitted}
 use Rattle.rounds.specs.Added.{byRank}
-use Rattle.rounds.specs.Room.{fitted}
 use Rattle.results.specs.Results.{resultCount, resultIn}
 use Rattle.apply.specs.Apply.{appliedAt, sentAt}
 

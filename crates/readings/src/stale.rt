@@ -5,7 +5,7 @@ ghost use lib.ListN.{getD, set};
 ghost use Rattle.tags.specs.Lists.{listIn, room};
 ghost use Rattle.table.specs.Tag.{freshTag};
 ghost use Rattle.table.specs.Table.{tableIn};
-ghost use Rattle.rounds.specs.Room.{fitted};
+ghost use Rattle.slices.specs.Room.{fitted};
 ghost use Rattle.readings.specs.Stale.{isStale, isFresh, staleHeld, isStaled, tagStale, staledTags};
 use table::put_tag;
 use table::tag::Tag;

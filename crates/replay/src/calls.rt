@@ -15,7 +15,7 @@ use frames::parts::list_at;
 use words::scalar::float_of_word;
 use words::scalar::int_of_word;
 use words::scalar::word_of_float;
-use worker::reply::Reply;
+use replies::reply::Reply;
 
 // Where the numbers of a frame stand: behind the operation and the lengths of the lent memory and list.
 const FIRST: usize = 9;

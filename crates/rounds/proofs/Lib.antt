@@ -6,6 +6,4 @@ pub mod GracedLaws
 pub mod NameLaws
 pub mod OnceLaws
 pub mod RoundLaws
-pub mod SliceLaws
-pub mod SlotLaws
 pub mod TickLaws

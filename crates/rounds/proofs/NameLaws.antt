@@ -17,10 +17,10 @@ use Rattle.table.specs.declared.tag.Tag.{Tag}
 use Rattle.tiers.specs.Tiers.{Table, tagAt, setTable}
 use Rattle.tiers.specs.Listed.{Listed}
 use Rattle.tiers.proofs.ListedLaws.{listed-set, order-below, set-long}
+use Rattle.slices.specs.Slice.{isTier2, tier2Tags}
 use Rattle.rounds.specs.Tick.{tickOf, boundaryAt}
 use Rattle.rounds.specs.Graces.{hasRunOut, expiredAt, runOut}
 use Rattle.rounds.specs.Due.{dueTags, marked}
-use Rattle.rounds.specs.Slice.{isTier2, tier2Tags}
 use Rattle.rounds.specs.Round.{Polling, Rooms, Round, round}
 use Rattle.rounds.specs.declared.tick.Options.{Options}
 

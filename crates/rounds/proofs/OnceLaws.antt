@@ -23,10 +23,10 @@ use Rattle.table.specs.declared.tag.Tag.{Tag}
 use Rattle.tiers.specs.Tiers.{Table, tagAt}
 use Rattle.tiers.specs.Listed.{inTier, Listed}
 use Rattle.tiers.proofs.ListedLaws.{order-below}
-use Rattle.rounds.specs.Room.{fitted}
+use Rattle.slices.specs.Room.{fitted}
+use Rattle.slices.specs.Slice.{isTier2, tier2Tags, sliceTaken}
 use Rattle.rounds.specs.Graces.{hasRunOut, runOut}
 use Rattle.rounds.specs.Due.{isDue, dueTags, marked}
-use Rattle.rounds.specs.Slice.{isTier2, tier2Tags, sliceTaken}
 use Rattle.rounds.specs.Added.{isAdded, byRank, withAddedTags}
 use Rattle.rounds.specs.Missing.{isHeldBack, notHeldBack}
 use Rattle.rounds.specs.Round.{Polling, Rooms, Round, round}

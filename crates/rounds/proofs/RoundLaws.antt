@@ -12,11 +12,11 @@ use Rattle.table.specs.Table.{tableIn}
 use Rattle.table.specs.declared.tag.Tag.{Tag}
 use Rattle.tiers.specs.Tiers.{Table, tabled}
 use Rattle.groups.specs.Groups.{Groups, grouped}
-use Rattle.rounds.specs.Room.{fitted}
+use Rattle.slices.specs.Room.{fitted}
+use Rattle.slices.specs.Slice.{tier2Tags, sliceTaken, nextIndex}
 use Rattle.rounds.specs.Tick.{tickOf, boundaryAt}
 use Rattle.rounds.specs.Graces.{expiredAt, runOut}
 use Rattle.rounds.specs.Due.{dueTags, marked, recordedDue, noneSeen}
-use Rattle.rounds.specs.Slice.{tier2Tags, sliceTaken, nextIndex}
 use Rattle.rounds.specs.Added.{byRank, withAddedTags, settled}
 use Rattle.rounds.specs.Missing.{notHeldBack}
 use Rattle.rounds.specs.Round.{Round, withTags, cycleAfter, round}

@@ -8,7 +8,7 @@ use Rattle.tags.specs.Lists.{member}
 use Rattle.table.specs.Tag.{freshTag}
 use Rattle.table.specs.Table.{withAdded}
 use Rattle.table.specs.declared.tag.Tag.{Tag}
-use Rattle.rounds.specs.Room.{fitted}
+use Rattle.slices.specs.Room.{fitted}
 
 abbrev pub isAdded : List Tag → List ℕ → ℕ → Bool
 isAdded tags listed k = getD tags k freshTag .added && not (member k listed)

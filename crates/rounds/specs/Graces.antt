@@ -8,7 +8,7 @@ use Rattle.lists.specs.Keep.{keep}
 use Rattle.table.specs.Tag.{freshTag}
 use Rattle.table.specs.declared.tag.Tag.{Tag}
 use Rattle.tiers.specs.Tiers.{Table, tagAt, setTable}
-use Rattle.rounds.specs.Room.{fitted}
+use Rattle.slices.specs.Room.{fitted}
 
 abbrev pub hasRunOut : List Tag → Float → ℕ → Bool
 hasRunOut tags clock k = le (getD tags k freshTag .grace .deadline) clock

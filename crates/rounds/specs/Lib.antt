@@ -1,10 +1,8 @@
 -- Rule 6, part by part, and the round whole.
-pub mod Room
 pub mod Options
 pub mod Tick
 pub mod Graces
 pub mod Due
-pub mod Slice
 pub mod Added
 pub mod Missing
 pub mod Round

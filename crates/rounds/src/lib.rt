@@ -5,5 +5,4 @@ pub mod graces;
 pub mod missing;
 pub mod options;
 pub mod round;
-pub mod slice;
 pub mod tick;

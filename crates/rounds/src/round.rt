@@ -17,11 +17,11 @@ use super::due::mark_due;
 use super::due::record_due;
 use super::graces::expire;
 use super::missing::drop_missing;
-use super::slice::take_slice;
 use super::tick::Cycle;
 use super::tick::Options;
 use super::tick::is_boundary;
 use super::tick::tick_of;
+use slices::slice::take_slice;
 
 pub struct CycleTags {
     pub tick: f64,
@@ -92,7 +92,17 @@ pub fn cycle_tags(
     list_due(t, order, wanted, clock, half, cycle);
     mark_due(t, wanted, clock);
     record_due(t, wanted, groups, recorded, clock);
-    let index = take_slice(t, order, keys, sorted, wanted, o, c.index, boundary);
+    let index = take_slice(
+        t,
+        order,
+        keys,
+        sorted,
+        wanted,
+        o.period,
+        cycle,
+        c.index,
+        boundary,
+    );
     list_round(t, wanted, list, clock);
     let after = cycle_after(c, boundary, clock, index);
     CycleTags {

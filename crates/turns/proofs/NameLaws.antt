@@ -13,10 +13,10 @@ use Rattle.ranks.specs.Ranks.{over, keysOf}
 use Rattle.ranks.proofs.Laws.{sorted-by-name}
 use Rattle.table.specs.declared.tag.Tag.{Tag}
 use Rattle.tiers.specs.Tiers.{Table}
+use Rattle.slices.specs.Slice.{isTier2, tier2Tags}
 use Rattle.rounds.specs.Tick.{tickOf, boundaryAt}
 use Rattle.rounds.specs.Graces.{expiredAt, runOut}
 use Rattle.rounds.specs.Due.{dueTags, marked}
-use Rattle.rounds.specs.Slice.{isTier2, tier2Tags}
 use Rattle.rounds.specs.Round.{Polling, Rooms, round}
 use Rattle.rounds.specs.declared.tick.Options.{Options}
 use Rattle.turns.proofs.InsideLaws.{Inside, inside-run-out, expired-inside}

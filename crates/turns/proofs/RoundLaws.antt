@@ -14,9 +14,9 @@ use Rattle.table.specs.declared.tag.Tag.{Tag}
 use Rattle.tiers.specs.Tiers.{Table, tagAt, tagSet, putTable, setTable}
 use Rattle.tiers.specs.Listed.{Listed}
 use Rattle.tiers.proofs.ListedLaws.{order-below}
+use Rattle.slices.specs.Slice.{tier2Tags, sliceTaken, nextIndex}
 use Rattle.rounds.specs.Graces.{expiredAt, runOut}
 use Rattle.rounds.specs.Due.{marked}
-use Rattle.rounds.specs.Slice.{tier2Tags, sliceTaken, nextIndex}
 use Rattle.rounds.specs.Added.{settled}
 use Rattle.rounds.specs.Round.{Polling, Rooms, Round, cycleAfter, round}
 use Rattle.rounds.specs.declared.tick.Options.{Options}

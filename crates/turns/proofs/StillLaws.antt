@@ -19,20 +19,20 @@ use Rattle.versions.specs.Versions.{isReloaded, versionTable}
 use Rattle.writes.specs.Queue.{popped}
 use Rattle.writes.specs.declared.queue.Popped.{Popped}
 use Rattle.writes.specs.declared.queue.Popped.the-variants.{Nothing, Is}
-use Rattle.engine.specs.Link.{isState, withAttempt}
-use Rattle.engine.specs.Stats.{readStats, tailStats, reconnected}
-use Rattle.engine.specs.declared.link.State.the-variants.{Disconnected, Connecting, Connected}
-use Rattle.engine.specs.declared.progress.After.{After}
-use Rattle.engine.specs.declared.progress.After.the-variants.{Tail, Idle, End}
-use Rattle.engine.specs.declared.progress.Phase.{Phase}
-use Rattle.engine.specs.declared.progress.Phase.the-variants.{Begin, Connect, OpenVersion, Version, Read, Describe, Write, ReadBack, Wait, Backoff, OpenFailedTold, OpenMetaTold, ConnectedTold, MetaTold, ValuesTold, InfoTold, RefusedTold, LostTold, OutcomeTold, BackTold, FailedTold, StaleTold, DisconnectedTold, ConnectingTold, Stopped}
+use Rattle.heads.specs.Link.{isState, withAttempt}
+use Rattle.heads.specs.Stats.{readStats, tailStats, reconnected}
+use Rattle.heads.specs.declared.link.State.the-variants.{Disconnected, Connecting, Connected}
+use Rattle.heads.specs.declared.progress.After.{After}
+use Rattle.heads.specs.declared.progress.After.the-variants.{Tail, Idle, End}
+use Rattle.heads.specs.declared.progress.Phase.{Phase}
+use Rattle.heads.specs.declared.progress.Phase.the-variants.{Begin, Connect, OpenVersion, Version, Read, Describe, Write, ReadBack, Wait, Backoff, OpenFailedTold, OpenMetaTold, ConnectedTold, MetaTold, ValuesTold, InfoTold, RefusedTold, LostTold, OutcomeTold, BackTold, FailedTold, StaleTold, DisconnectedTold, ConnectingTold, Stopped}
 use Rattle.turns.proofs.TierLaws.{places, placeOf, map-kept}
 use Rattle.board.specs.Board.{withRecords, staledIn, appliedTo, describing}
-use Rattle.worker.specs.Reply as reply
-use Rattle.worker.specs.declared.reply.Reply.{Reply}
-use Rattle.worker.specs.Worker.{Worker, At, tell, asks, withBoard, phased, linked, tallied}
-use Rattle.worker.specs.Losing.{isEmpty, failing, ended, backingOff, disconnected, staling, down, top}
-use Rattle.worker.specs.Polling.{elapsed, remaining, polls, waiting, idle, tail, resume, writingOf, writing, checking, reading}
+use Rattle.replies.specs.Reply as reply
+use Rattle.replies.specs.declared.reply.Reply.{Reply}
+use Rattle.replies.specs.Worker.{Worker, At, tell, asks, withBoard, phased, linked, tallied}
+use Rattle.replies.specs.Losing.{isEmpty, failing, ended, backingOff, disconnected, staling, down, top}
+use Rattle.cycles.specs.Polling.{elapsed, remaining, polls, waiting, idle, tail, resume, writingOf, writing, checking, reading}
 use Rattle.worker.specs.Answers.{Answer, awaited, either, answers, contents, numberOf, versioned, connected, reconnecting, opened, openVersion, roundVersion, results, descriptions, written, readBack, backApplied, waited, backedOff, connectAnswered, taken, handled}
 use Rattle.turns.proofs.RateLaws.{rated-version}
 use Rattle.turns.proofs.KeepLaws.{Keeps, keeps-all, keeps-tags, keeps-records, keeps-after, Still, still-tell, still-if, still-after, apply-places, known-places, version-tiers}

@@ -20,7 +20,7 @@ use Rattle.table.specs.declared.tag.Tag.{Tag}
 use Rattle.tiers.specs.Tiers.{Table, tagAt}
 use Rattle.tiers.specs.Listed.{inTier, Listed}
 use Rattle.tiers.proofs.ListedLaws.{order-below}
-use Rattle.rounds.specs.Slice.{isTier2, tier2Tags}
+use Rattle.slices.specs.Slice.{isTier2, tier2Tags}
 use Rattle.rounds.specs.Round.{withTags}
 
 -- ---- the tiers of a table's tags

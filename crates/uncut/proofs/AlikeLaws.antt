@@ -37,19 +37,19 @@ use Rattle.writes.specs.declared.queue.Popped.{Popped}
 use Rattle.writes.specs.declared.queue.Popped.the-variants.{Nothing, Is}
 use Rattle.rounds.specs.Added.{byRank}
 use Rattle.rounds.specs.Round.{Round}
-use Rattle.engine.specs.Link.{isState, withAttempt}
-use Rattle.engine.specs.Stats.{readStats, tailStats, reconnected}
-use Rattle.engine.specs.declared.link.State.the-variants.{Disconnected, Connecting, Connected, Stopped as AtStop}
-use Rattle.engine.specs.declared.progress.After.{After}
-use Rattle.engine.specs.declared.progress.After.the-variants.{Tail, Idle, End}
-use Rattle.engine.specs.declared.progress.Phase.{Phase}
-use Rattle.engine.specs.declared.progress.Phase.the-variants.{Begin, Connect, OpenVersion, Version as AskVersion, Read, Describe, Write as AskWrite, ReadBack, Wait, Backoff, OpenFailedTold, OpenMetaTold, ConnectedTold, MetaTold, ValuesTold, InfoTold, RefusedTold, LostTold, OutcomeTold, BackTold, FailedTold, StaleTold, DisconnectedTold, ConnectingTold, Stopped}
+use Rattle.heads.specs.Link.{isState, withAttempt}
+use Rattle.heads.specs.Stats.{readStats, tailStats, reconnected}
+use Rattle.heads.specs.declared.link.State.the-variants.{Disconnected, Connecting, Connected, Stopped as AtStop}
+use Rattle.heads.specs.declared.progress.After.{After}
+use Rattle.heads.specs.declared.progress.After.the-variants.{Tail, Idle, End}
+use Rattle.heads.specs.declared.progress.Phase.{Phase}
+use Rattle.heads.specs.declared.progress.Phase.the-variants.{Begin, Connect, OpenVersion, Version as AskVersion, Read, Describe, Write as AskWrite, ReadBack, Wait, Backoff, OpenFailedTold, OpenMetaTold, ConnectedTold, MetaTold, ValuesTold, InfoTold, RefusedTold, LostTold, OutcomeTold, BackTold, FailedTold, StaleTold, DisconnectedTold, ConnectingTold, Stopped}
 use Rattle.board.specs.Board.{Board, withRecords, withQueue, withAsked, keptBack, staledIn, appliedTo, describing, queuedTags, pollingOf}
-use Rattle.worker.specs.Reply as reply
-use Rattle.worker.specs.declared.reply.Reply.{Reply}
-use Rattle.worker.specs.Worker.{Worker, At, Told, tell, asks, withBoard, phased, linked, stated, tallied, goesOn}
-use Rattle.worker.specs.Losing.{isEmpty, withoutWrites, failing, ended, backingOff, disconnected, staling, down, top}
-use Rattle.worker.specs.Polling.{elapsed, remaining, polls, waiting, idle, tail, resume, writingOf, writing, checking, reading, roundAt, withWorked, worked, polled, poll, lastly, finished}
+use Rattle.replies.specs.Reply as reply
+use Rattle.replies.specs.declared.reply.Reply.{Reply}
+use Rattle.replies.specs.Worker.{Worker, At, Told, tell, asks, withBoard, phased, linked, stated, tallied, goesOn}
+use Rattle.replies.specs.Losing.{isEmpty, withoutWrites, failing, ended, backingOff, disconnected, staling, down, top}
+use Rattle.cycles.specs.Polling.{elapsed, remaining, polls, waiting, idle, tail, resume, writingOf, writing, checking, reading, roundAt, withWorked, worked, polled, poll, lastly, finished}
 use Rattle.worker.specs.Answers.{Answer, awaited, either, answers, contents, numberOf, versioned, connected, reconnecting, opened, openVersion, roundVersion, results, descriptions, written, readBack, backApplied, waited, backedOff, connectAnswered, taken, handled}
 use Rattle.capi.specs.Calls.{maxWrites}
 use Rattle.uncut.specs.Uncut.{boardRoomed, roomed}

@@ -27,9 +27,9 @@ use Rattle.panel.specs.Panel.{loaded}
 use Rattle.panel.proofs.LoadLaws.{long-tier}
 use Rattle.groups.specs.Groups.{Groups}
 use Rattle.settings.specs.Settings.{maxGroups}
+use Rattle.slices.specs.Slice.{isTier2, sliceTaken, nextIndex}
 use Rattle.rounds.specs.Graces.{runOut}
 use Rattle.rounds.specs.Due.{isDue, marked, recordedDue, noneSeen}
-use Rattle.rounds.specs.Slice.{isTier2, sliceTaken, nextIndex}
 use Rattle.rounds.specs.Added.{isAdded, byRank, settled}
 use Rattle.rounds.specs.Missing.{isHeldBack}
 use Rattle.rounds.specs.Round.{Polling, Rooms, Round, withTags, cycleAfter, round}

@@ -32,18 +32,18 @@ use Rattle.versions.specs.Versions.{tagTaken, takenAt, tableTaken}
 use Rattle.rounds.specs.Options.{optionsCheck}
 use Rattle.rounds.specs.Round.{Round}
 use Rattle.rounds.specs.declared.tick.Options.{Options}
-use Rattle.engine.specs.Link.{isState}
-use Rattle.engine.specs.declared.link.State.the-variants.{Connected}
-use Rattle.engine.specs.declared.progress.After.the-variants.{End}
+use Rattle.heads.specs.Link.{isState}
+use Rattle.heads.specs.declared.link.State.the-variants.{Connected}
+use Rattle.heads.specs.declared.progress.After.the-variants.{End}
 use Rattle.lent.specs.Lent.{wroteAll, wroteCells}
 use Rattle.lent.proofs.LentLaws.{all-fits}
 use Rattle.histories.specs.Events.{Each}
 use Rattle.histories.specs.Histories.{atEach, answers, states}
 use Rattle.board.specs.Board.{Board, withTable, pollingOf}
 use Rattle.board.specs.Creation.{freshBoard, freshWords, noNumbers, tagRoom, listRoom, configuredRoom}
-use Rattle.worker.specs.Worker.{Worker, At, Told, tell, at, goesOn}
-use Rattle.worker.specs.Polling.{waiting, writing, roundAt, polled, poll, lastly, finished}
-use Rattle.worker.specs.Reply as reply
+use Rattle.replies.specs.Worker.{Worker, At, Told, tell, at, goesOn}
+use Rattle.cycles.specs.Polling.{waiting, writing, roundAt, polled, poll, lastly, finished}
+use Rattle.replies.specs.Reply as reply
 use Rattle.worker.specs.Answers.{Answer, contents, stepCheck, clocked, stepped, step}
 use Rattle.capi.specs.Calls.{clockCheck, noTag, tierCheck, tiered, loadCheck, writeCheck, writeOf, wrote, maxWrites, answerOf}
 use Rattle.capi.specs.Calls as calls

@@ -2,7 +2,7 @@
 // reading is lost, and so is every attempt to connect again.
 use memory::cells::put_cell;
 use worker::checks::Answer;
-use worker::reply::Reply;
+use replies::reply::Reply;
 
 const TAGS: usize = 4;
 

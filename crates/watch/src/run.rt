@@ -11,7 +11,7 @@ use capi::calls::wz_step;
 use capi::creation::wz_create;
 use changes::Change;
 use worker::checks::Answer;
-use worker::reply::Reply;
+use replies::reply::Reply;
 
 // The bytes of an engine.
 const MEMORY: usize = 38400;

@@ -14,7 +14,7 @@ use Rattle.tags.specs.Lists.{listIn, room}
 use Rattle.table.specs.Table.{tableIn}
 use Rattle.ranks.specs.Ranks.{over, wordsOf}
 use Rattle.ranks.proofs.WordLaws.{word-differs}
-use Rattle.rounds.specs.Room.{fitted}
+use Rattle.slices.specs.Room.{fitted}
 use Rattle.rounds.proofs.OnceLaws.{count-take}
 use Rattle.readings.specs.Listed.{AppliedAll}
 use Rattle.readings.specs.Order.{applyInOrder}

@@ -5,7 +5,7 @@ ghost use mathlib.Core.List.{[]};
 ghost use Prim.Native.Nat.{_-_};
 ghost use lib.ListN.{length, getD, set, take};
 ghost use Rattle.tags.specs.Lists.{listIn, room};
-ghost use Rattle.rounds.specs.Room.{fitted};
+ghost use Rattle.slices.specs.Room.{fitted};
 ghost use Rattle.writes.specs.Queue.{noWrite, queueRoom, placesIn, queueIn, queuedWith, popped, rest, writeTags, nextOf};
 use memory::cells::cell;
 use memory::cells::put_cell;

@@ -2,7 +2,7 @@
 ghost use mathlib.Core.Path.{_≡_};
 ghost use Rattle.memory.specs.Halves.{halvesIn};
 ghost use Rattle.tags.specs.Lists.{listIn, room};
-ghost use Rattle.rounds.specs.Room.{fitted};
+ghost use Rattle.slices.specs.Room.{fitted};
 ghost use Rattle.writes.specs.ReadBack.{readBackTags, readBackValue, readBackFirst};
 use memory::halves::half;
 use results::result::result_at;

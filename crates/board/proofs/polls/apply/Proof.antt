@@ -1,4 +1,4 @@
--- `board::polls::apply` meets its contract.
+-- `polls::entries::apply` meets its contract.
 use mathlib.Core.Path.{_∙_, subst}
 use Prim.Native.Nat.{ℕ}
 use denote.Ref.{now}

@@ -1,4 +1,4 @@
--- `board::polls::apply_back` meets its contract.
+-- `polls::entries::apply_back` meets its contract.
 use mathlib.Core.Bool.{false}
 use mathlib.Core.List.{List}
 use mathlib.Core.Path.{subst}

@@ -1,4 +1,4 @@
--- `board::polls::apply_listed` meets its contract.
+-- `polls::entries::apply_listed` meets its contract.
 use Prim.Native.Nat.{ℕ}
 use denote.Ref.{now}
 use mir.Syntax.{w64}

@@ -1,4 +1,4 @@
--- `board::polls::apply_polled` meets its contract.
+-- `polls::entries::apply_polled` meets its contract.
 use mathlib.Core.Bool.{true}
 use mathlib.Core.Path.{subst}
 use denote.Ref.{now}

@@ -1,4 +1,4 @@
--- `board::polls::asked_count` meets its contract.
+-- `board::request::asked_count` meets its contract.
 use Rattle.board.specs.Regions.{regionsIn}
 use Rattle.board.specs.Board.{boardIn, boardOf}
 use borrow.Author.Needs.{needs}

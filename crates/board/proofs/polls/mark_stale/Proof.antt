@@ -1,4 +1,4 @@
--- `board::polls::mark_stale` meets its contract.
+-- `polls::entries::mark_stale` meets its contract.
 use mathlib.Core.Path.{_∙_}
 use Prim.Native.Nat.{ℕ}
 use denote.Ref.{now}

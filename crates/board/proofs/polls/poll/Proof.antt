@@ -1,4 +1,4 @@
--- `board::polls::poll` meets its contract.
+-- `polls::round::poll` meets its contract.
 use mathlib.Core.Path.{ap, _∙_}
 use native.Mathlib.Omega.{arith}
 use denote.Ref.{now}

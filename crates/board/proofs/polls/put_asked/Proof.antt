@@ -1,4 +1,4 @@
--- `board::polls::put_asked` meets its contract.
+-- `board::request::put_asked` meets its contract.
 use Rattle.board.specs.Regions.{regionsIn}
 use Rattle.board.specs.Board.{boardIn, boardOf}
 use borrow.Author.Needs.{needs}

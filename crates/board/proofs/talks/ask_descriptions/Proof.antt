@@ -1,4 +1,4 @@
--- `board::talks::ask_descriptions` meets its contract.
+-- `talks::ask_descriptions` meets its contract.
 use mathlib.Core.Path.{_∙_}
 use native.Mathlib.Omega.{arith}
 use denote.Ref.{now}

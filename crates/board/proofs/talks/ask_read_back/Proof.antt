@@ -1,4 +1,4 @@
--- `board::talks::ask_read_back` meets its contract.
+-- `talks::ask_read_back` meets its contract.
 use mathlib.Core.Path.{ap, _∙_}
 use mathlib.Core.List.{List}
 use Prim.Native.Nat.{ℕ}

@@ -1,4 +1,4 @@
--- `board::talks::check_version` meets its contract.
+-- `talks::check_version` meets its contract.
 use denote.Ref.{now}
 use Rattle.board.proofs.TalkLaws.{version-put}
 use borrow.Author.Needs.{needs}

@@ -1,4 +1,4 @@
--- `board::talks::keep_back` meets its contract.
+-- `talks::keep_back` meets its contract.
 use denote.Ref.{now}
 use Rattle.board.proofs.TalkLaws.{back-kept}
 use borrow.Author.Needs.{needs}

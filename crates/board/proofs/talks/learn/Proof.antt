@@ -1,4 +1,4 @@
--- `board::talks::learn` meets its contract.
+-- `talks::learn` meets its contract.
 use mathlib.Core.Path.{ap, _∙_}
 use mathlib.Core.List.{List}
 use Prim.Native.Nat.{ℕ}

@@ -1,4 +1,4 @@
--- `engine::link::is_state` meets its contract.
+-- `heads::link::is_state` meets its contract.
 use borrow.Author.Needs.{needs}
 use Rattle.engine.proofs.link.is_state.Statement.{statement}
 use Rattle.engine.proofs.link.is_state.Tie as tie

@@ -1,4 +1,4 @@
--- `engine::link::state_from` meets its contract.
+-- `heads::link::state_from` meets its contract.
 use borrow.Author.Tests.{ne-eqb}
 use Rattle.engine.proofs.link.state_from.Statement.{statement}
 use Rattle.engine.proofs.link.state_from.Tie as tie

@@ -1,4 +1,4 @@
--- `engine::progress::after_from` meets its contract.
+-- `heads::progress::after_from` meets its contract.
 use borrow.Author.Tests.{ne-eqb}
 use Rattle.engine.proofs.progress.after_from.Statement.{statement}
 use Rattle.engine.proofs.progress.after_from.Tie as tie

@@ -1,4 +1,4 @@
--- `engine::progress::phase_from` meets its contract.
+-- `heads::progress::phase_from` meets its contract.
 use mathlib.Core.Path.{refl}
 use Rattle.engine.specs.Progress.{phaseFrom}
 use borrow.Author.Tests.{ne-eqb}

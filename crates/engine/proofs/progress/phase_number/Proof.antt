@@ -1,4 +1,4 @@
--- `engine::progress::phase_number` meets its contract.
+-- `heads::progress::phase_number` meets its contract.
 use borrow.Author.Needs.{needs}
 use Rattle.engine.proofs.progress.phase_number.Statement.{statement}
 use Rattle.engine.proofs.progress.phase_number.Tie as tie

@@ -1,4 +1,4 @@
--- `engine::stats::more` meets its contract.
+-- `heads::stats::more` meets its contract.
 use borrow.Author.Tests.{lt-ltb, le-ltb}
 use borrow.Author.Needs.{needs}
 use Rattle.engine.proofs.stats.more.Statement.{statement}

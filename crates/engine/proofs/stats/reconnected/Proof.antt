@@ -1,4 +1,4 @@
--- `engine::stats::reconnected` meets its contract.
+-- `heads::stats::reconnected` meets its contract.
 use mir.Val.{SFits}
 use mir.Syntax.{w64}
 use mir.Facts.{toZ-ofZ}

@@ -1,4 +1,4 @@
--- `engine::stats::tail_stats` meets its contract.
+-- `heads::stats::tail_stats` meets its contract.
 use Rattle.engine.specs.Stats.{tailStats}
 use mathlib.Core.Path.{_≡_}
 use mathlib.Core.Bool.{true, false}

@@ -13,10 +13,10 @@ use Rattle.tags.specs.Lists.{listIn, room, pushed}
 use Rattle.tags.proofs.ListLaws.{room-same, list-short}
 use Rattle.table.specs.Table.{tableIn}
 use Rattle.table.proofs.RowLaws.{length-table}
+use Rattle.slices.proofs.SliceLaws.{fitted-none}
 use Rattle.rounds.specs.Added.{isAdded}
 use Rattle.lists.specs.Keep.{upTo}
 use Rattle.rounds.proofs.AddedLaws.{added-none, added-yes, added-listed, added-no}
-use Rattle.rounds.proofs.SliceLaws.{fitted-none}
 use Rattle.rounds.proofs.added.list_added.Statement.{statement}
 use Rattle.rounds.proofs.added.list_added.Tie as tie
 
