@@ -5,8 +5,9 @@ use mathlib.Core.List.{List, [], _∷_}
 use Prim.Native.Nat.{ℕ, zero, suc, _/_, _%_, _<_, _≤_, min}
 use native.Mathlib.Omega.{arith}
 use borrow.Author.Tests.{ltb-true, ltb-false}
-use lib.Dec.{ltb}
-use lib.Ieee.{Float, binary64, ofBits, ofInt}
+use lib.Dec.{T, ltb}
+use lib.Ieee.{Float, binary64, fits, ofBits, toBits}
+use lib.Ieee.Bits.{ofBits-toBits}
 use lib.ListN.{length, getD, set}
 use mir.Val.{toZ}
 use mir.Syntax.{w64}
@@ -14,10 +15,13 @@ use lib.Seq.{getD-set-same}
 use Rattle.ieee.specs.Round.{float}
 use Rattle.memory.specs.Cells.{rowsIn, noRow}
 use Rattle.memory.proofs.RowLaws.{length-rows, rows-kept, row-long, spread, spread-is}
+use Rattle.rounds.specs.declared.tick.Options.{Options}
+use Rattle.rounds.specs.declared.tick.Cycle.{Cycle}
 use Rattle.versions.specs.Versions.{versionFrom}
-use Rattle.engine.specs.Link.{stateFrom, stateNumber}
-use Rattle.engine.specs.Progress.{phaseFrom, phaseNumber, afterFrom, afterNumber}
-use Rattle.engine.specs.Engine.{linkFrom, progressFrom, statsFrom, engineFrom, engineIn, stored, withClock, backoffAt}
+use Rattle.engine.specs.Link.{stateFrom, stateNumber, linkFrom}
+use Rattle.engine.specs.Progress.{phaseFrom, phaseNumber, afterFrom, afterNumber, progressFrom}
+use Rattle.engine.specs.Stats.{statsFrom}
+use Rattle.engine.specs.Engine.{optionsFrom, cycleFrom, engineFrom, engineIn, stored, withClock, backoffAt}
 use Rattle.engine.specs.declared.link.State.{State}
 use Rattle.engine.specs.declared.link.State.the-variants.{Connecting, Connected, Disconnected, Stopped}
 use Rattle.engine.specs.declared.link.Link.{Link}
@@ -28,6 +32,9 @@ use Rattle.engine.specs.declared.progress.Phase.the-variants.{Begin, Con
 use Rattle.engine.specs.declared.progress.Progress.{Progress}
 use Rattle.engine.specs.declared.stats.Stats.{Stats}
 use Rattle.engine.specs.declared.Engine.{Engine}
+
+pub float-back : (w : ℕ) (x : Float) → T (fits binary64 x) → w ≡ toBits binary64 x → ofBits binary64 w ≡ x
+float-back w x fit e = ap (ofBits binary64) e ∙ ofBits-toBits binary64 x fit
 
 pub state-coded : (s : State) → stateFrom (stateNumber s) ≡ s
 state-coded Connecting = refl
@@ -85,20 +92,27 @@ pub stats-coded : (x : Stats) (timed ms ts : ℕ)
     → statsFrom timed ms ts (x .tags) (x .overruns) (x .reconnects) (x .reloads) ≡ x
 stats-coded x timed ms ts e1 e2 e3 = rw (e1, e2, e3)
 
+pub options-coded : (x : Options) (cycle period grace : ℕ)
+    → ofBits binary64 cycle ≡ x .cycle → ofBits binary64 period ≡ x .period → ofBits binary64 grace ≡ x .grace
+    → optionsFrom cycle period grace ≡ x
+options-coded x cycle period grace e1 e2 e3 = rw (e1, e2, e3)
+
+pub cycle-coded : (x : Cycle) (begun last : ℕ) → ltb 0 begun ≡ x .begun → ofBits binary64 last ≡ x .last → cycleFrom begun last (x .index) ≡ x
+cycle-coded x begun last e1 e2 = rw (e1, e2)
+
 pub engine-coded : (x : Engine)
-    (length period grace begun last clock count state stopping known number attempt phase after start tick boundary tag timed ms ts tags overruns reconnects reloads : ℕ)
-    → ofBits binary64 length ≡ x .options .cycle → ofBits binary64 period ≡ x .options .period → ofBits binary64 grace ≡ x .options .grace
-    → ltb 0 begun ≡ x .cycle .begun → ofBits binary64 last ≡ x .cycle .last → ofBits binary64 clock ≡ x .clock → count % 65536 ≡ x .count
+    (length period grace begun last index clock count state stopping known number attempt phase after start tick boundary tag timed ms ts tags overruns reconnects reloads : ℕ)
+    → optionsFrom length period grace ≡ x .options → cycleFrom begun last index ≡ x .cycle → ofBits binary64 clock ≡ x .clock → count % 65536 ≡ x .count
     → linkFrom state stopping known number attempt ≡ x .link
     → progressFrom phase after start tick boundary tag ≡ x .progress
     → statsFrom timed ms ts tags overruns reconnects reloads ≡ x .stats
     → engineFrom (
-    length ∷ period ∷ grace ∷ begun ∷ last ∷ x .cycle .index ∷ clock ∷ count ∷ state ∷ stopping ∷ known ∷ number ∷ attempt ∷ phase ∷ after ∷ start ∷ tick ∷ boundary ∷ tag
+    length ∷ period ∷ grace ∷ begun ∷ last ∷ index ∷ clock ∷ count ∷ state ∷ stopping ∷ known ∷ number ∷ attempt ∷ phase ∷ after ∷ start ∷ tick ∷ boundary ∷ tag
     ∷ timed ∷ ms ∷ ts ∷ tags ∷ overruns ∷ reconnects ∷ reloads ∷ 0 ∷ 0 ∷ 0 ∷ 0 ∷ 0 ∷ 0 ∷ []
     ) ≡ x
 unfolding engineFrom
-engine-coded x length period grace begun last clock count state stopping known number attempt phase after start tick boundary tag timed ms ts tags overruns reconnects reloads e1 e2 e3 e4 e5 e6 e7 e8 e9 e10 =
-    rw (e8, e9, e10, e1, e2, e3, e4, e5, e6, e7)
+engine-coded x length period grace begun last index clock count state stopping known number attempt phase after start tick boundary tag timed ms ts tags overruns reconnects reloads e1 e2 e3 e4 e5 e6 e7 =
+    rw (e1, e2, e3, e4, e5, e6, e7)
 
 engine-at : (bs : List ℕ) → engineIn bs ≡ engineFrom (getD (rowsIn bs) 0 noRow)
 unfolding engineIn

@@ -1,7 +1,8 @@
 -- Rule 9: the connection.
 use mathlib.Core.Bool.{Bool, true, false, cond}
 use Prim.Native.Nat.{ℕ}
-use lib.Dec.{eqb}
+use lib.Dec.{eqb, ltb}
+use Rattle.versions.specs.Versions.{versionFrom}
 use Rattle.versions.specs.declared.version.Version.{Version}
 use Rattle.versions.specs.declared.version.Version.the-variants.{Null}
 use Rattle.engine.specs.declared.link.State.{State}
@@ -35,3 +36,7 @@ withVersion x v = record { state = x .state; stopping = x .stopping; version = v
 -- a stop asked for
 abbrev pub stopped : Link → Link
 stopped x = record { state = x .state; stopping = true; version = x .version; attempt = x .attempt }
+
+-- the connection that words hold
+abbrev pub linkFrom : ℕ → ℕ → ℕ → ℕ → ℕ → Link
+linkFrom state stopping known number attempt = record { state = stateFrom state; stopping = ltb 0 stopping; version = versionFrom known number; attempt = attempt }

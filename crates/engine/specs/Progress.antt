@@ -1,7 +1,7 @@
 -- Rule 9: what the engine waits for, and what it needs to go on.
 use mathlib.Core.Bool.{Bool, false, cond}
-use Prim.Native.Nat.{ℕ}
-use lib.Dec.{eqb}
+use Prim.Native.Nat.{ℕ, _%_}
+use lib.Dec.{eqb, ltb}
 use lib.Ieee.{Float, binary64, ofBits}
 use Rattle.engine.specs.declared.progress.Phase.{Phase}
 use Rattle.engine.specs.declared.progress.Phase.the-variants.{Begin, Connect, OpenVersion, Version, Read, Describe, Write, ReadBack, Wait, Backoff, OpenFailedTold, OpenMetaTold, ConnectedTold, MetaTold, ValuesTold, InfoTold, RefusedTold, LostTold, OutcomeTold, BackTold, FailedTold, StaleTold, DisconnectedTold, ConnectingTold, Stopped}
@@ -65,3 +65,14 @@ withWriting x a k = record { phase = Write; after = a; start = x .start; tick = 
 -- Rule 6: a round was worked out
 abbrev pub withRound : Progress → Float → Float → Bool → Progress
 withRound x start tick boundary = record { phase = x .phase; after = x .after; start = start; tick = tick; boundary = boundary; tag = x .tag }
+
+-- the progress that words hold
+abbrev pub progressFrom : ℕ → ℕ → ℕ → ℕ → ℕ → ℕ → Progress
+progressFrom phase after start tick boundary tag = record {
+  phase = phaseFrom phase;
+  after = afterFrom after;
+  start = ofBits binary64 start;
+  tick = ofBits binary64 tick;
+  boundary = ltb 0 boundary;
+  tag = tag % 65536;
+}

@@ -4,6 +4,8 @@ use Prim.Native.Nat.{ℕ, _+_}
 use lib.Dec.{ltb}
 use lib.IntN.{ℤ, pos}
 use lib.Ieee.{Float, binary64, ofBits, mul, lt}
+use mir.Val.{toZ}
+use mir.Syntax.{w64}
 use Rattle.ieee.specs.Round.{float, round1Of}
 use Rattle.engine.specs.declared.stats.Stats.{Stats}
 
@@ -37,3 +39,15 @@ reconnected x = record { timed = x .timed; ms = x .ms; ts = x .ts; tags = x .tag
 -- Rule 8: a version change from non-null counts a reload.
 abbrev pub reloaded : Stats → Stats
 reloaded x = record { timed = x .timed; ms = x .ms; ts = x .ts; tags = x .tags; overruns = x .overruns; reconnects = x .reconnects; reloads = counted (x .reloads) }
+
+-- the statistics that words hold
+abbrev pub statsFrom : ℕ → ℕ → ℕ → ℕ → ℕ → ℕ → ℕ → Stats
+statsFrom timed ms ts tags overruns reconnects reloads = record {
+  timed = ltb 0 timed;
+  ms = ofBits binary64 ms;
+  ts = toZ w64 ts;
+  tags = tags;
+  overruns = overruns;
+  reconnects = reconnects;
+  reloads = reloads;
+}

@@ -1,7 +1,10 @@
 // The connection: what the host knows of it, and what is to happen to it.
 ghost use mathlib.Core.Path.{_≡_};
-ghost use Rattle.engine.specs.Link.{freshLink, stateFrom, stateNumber, withState, withAttempt, withVersion, stopped, isState};
+ghost use Rattle.engine.specs.Link.{freshLink, stateFrom, stateNumber, withState, withAttempt, withVersion, stopped, isState, linkFrom};
 use versions::version::Version;
+use versions::version::version_from;
+use versions::version::version_words;
+use words::scalar::word_of_flag;
 
 // What the host is told. Stopped is not told; it comes with the end.
 pub enum State {
@@ -16,6 +19,15 @@ pub struct Link {
     pub state: State,
     pub stopping: bool,
     pub version: Version,
+    pub attempt: u64,
+}
+
+// A connection in words, as the head's row has it.
+pub struct LinkWords {
+    pub state: u64,
+    pub stopping: u64,
+    pub known: u64,
+    pub number: u64,
     pub attempt: u64,
 }
 
@@ -108,6 +120,36 @@ pub fn stopped(x: Link) -> Link
         state: state,
         stopping: true,
         version: version,
+        attempt: x.attempt,
+    }
+}
+
+pub fn link_from(state: u64, stopping: u64, known: u64, number: u64, attempt: u64) -> Link
+    ensures { λ r. ⌜ r ≡ linkFrom state stopping known number attempt ⌝ }
+{
+    let s = state_from(state);
+    let version = version_from(known, number);
+    Link {
+        state: s,
+        stopping: 0 < stopping,
+        version: version,
+        attempt: attempt,
+    }
+}
+
+pub fn link_words(x: Link) -> LinkWords
+    ensures { λ r. ⌜ linkFrom (r .state) (r .stopping) (r .known) (r .number) (r .attempt) ≡ x ⌝ }
+{
+    let state = x.state;
+    let version = x.version;
+    let s = state_number(state);
+    let stopping = word_of_flag(x.stopping);
+    let v = version_words(version);
+    LinkWords {
+        state: s,
+        stopping: stopping,
+        known: v.known,
+        number: v.number,
         attempt: x.attempt,
     }
 }

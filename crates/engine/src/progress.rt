@@ -1,6 +1,9 @@
 // How far the engine has come: what it waits for, and what it needs to go on.
 ghost use mathlib.Core.Path.{_≡_};
-ghost use Rattle.engine.specs.Progress.{freshProgress, phaseFrom, phaseNumber, afterFrom, afterNumber, withPhase, withWriting, withRound};
+ghost use Rattle.engine.specs.Progress.{freshProgress, phaseFrom, phaseNumber, afterFrom, afterNumber, withPhase, withWriting, withRound, progressFrom};
+use words::scalar::float_of_word;
+use words::scalar::word_of_flag;
+use words::scalar::word_of_float;
 
 // What is waited for. The first ten are requests; those that end in Told are events to be taken.
 pub enum Phase {
@@ -46,6 +49,16 @@ pub struct Progress {
     pub tick: f64,
     pub boundary: bool,
     pub tag: u16,
+}
+
+// The same in words, as the head's row has it.
+pub struct ProgressWords {
+    pub phase: u64,
+    pub after: u64,
+    pub start: u64,
+    pub tick: u64,
+    pub boundary: u64,
+    pub tag: u64,
 }
 
 impl Progress {
@@ -188,5 +201,49 @@ pub fn with_round(x: Progress, start: f64, tick: f64, boundary: bool) -> Progres
         tick: tick,
         boundary: boundary,
         tag: x.tag,
+    }
+}
+
+pub fn progress_from(
+    phase: u64,
+    after: u64,
+    start: u64,
+    tick: u64,
+    boundary: u64,
+    tag: u64,
+) -> Progress
+    ensures { λ r. ⌜ r ≡ progressFrom phase after start tick boundary tag ⌝ }
+{
+    let p = phase_from(phase);
+    let a = after_from(after);
+    let s = float_of_word(start);
+    let t = float_of_word(tick);
+    Progress {
+        phase: p,
+        after: a,
+        start: s,
+        tick: t,
+        boundary: 0 < boundary,
+        tag: (tag % 65536) as u16,
+    }
+}
+
+pub fn progress_words(x: Progress) -> ProgressWords
+    ensures { λ r. ⌜ progressFrom (r .phase) (r .after) (r .start) (r .tick) (r .boundary) (r .tag) ≡ x ⌝ }
+{
+    let phase = x.phase;
+    let after = x.after;
+    let p = phase_number(phase);
+    let a = after_number(after);
+    let start = word_of_float(x.start);
+    let tick = word_of_float(x.tick);
+    let boundary = word_of_flag(x.boundary);
+    ProgressWords {
+        phase: p,
+        after: a,
+        start: start,
+        tick: tick,
+        boundary: boundary,
+        tag: x.tag as u64,
     }
 }

@@ -1,6 +1,11 @@
 // Rule 10: the statistics of the rounds.
 ghost use mathlib.Core.Path.{_≡_};
-ghost use Rattle.engine.specs.Stats.{freshStats, counted, readStats, tailStats, reconnected, reloaded};
+ghost use Rattle.engine.specs.Stats.{freshStats, counted, readStats, tailStats, reconnected, reloaded, statsFrom};
+use words::scalar::float_of_word;
+use words::scalar::int_of_word;
+use words::scalar::word_of_flag;
+use words::scalar::word_of_float;
+use words::scalar::word_of_int;
 
 // `ms` is the last round's time, if one has ended (`timed`), `ts` its wall time, `tags` how many tags the last
 // round asked for.
@@ -8,6 +13,17 @@ pub struct Stats {
     pub timed: bool,
     pub ms: f64,
     pub ts: i64,
+    pub tags: u64,
+    pub overruns: u64,
+    pub reconnects: u64,
+    pub reloads: u64,
+}
+
+// The same in words, as the head's row has it.
+pub struct StatsWords {
+    pub timed: u64,
+    pub ms: u64,
+    pub ts: u64,
     pub tags: u64,
     pub overruns: u64,
     pub reconnects: u64,
@@ -103,5 +119,46 @@ pub fn reloaded(x: Stats) -> Stats
         overruns: x.overruns,
         reconnects: x.reconnects,
         reloads: n,
+    }
+}
+
+pub fn stats_from(
+    timed: u64,
+    ms: u64,
+    ts: u64,
+    tags: u64,
+    overruns: u64,
+    reconnects: u64,
+    reloads: u64,
+) -> Stats
+    ensures { λ r. ⌜ r ≡ statsFrom timed ms ts tags overruns reconnects reloads ⌝ }
+{
+    let m = float_of_word(ms);
+    let t = int_of_word(ts);
+    Stats {
+        timed: 0 < timed,
+        ms: m,
+        ts: t,
+        tags: tags,
+        overruns: overruns,
+        reconnects: reconnects,
+        reloads: reloads,
+    }
+}
+
+pub fn stats_words(x: Stats) -> StatsWords
+    ensures { λ r. ⌜ statsFrom (r .timed) (r .ms) (r .ts) (r .tags) (r .overruns) (r .reconnects) (r .reloads) ≡ x ⌝ }
+{
+    let timed = word_of_flag(x.timed);
+    let ms = word_of_float(x.ms);
+    let ts = word_of_int(x.ts);
+    StatsWords {
+        timed: timed,
+        ms: ms,
+        ts: ts,
+        tags: x.tags,
+        overruns: x.overruns,
+        reconnects: x.reconnects,
+        reloads: x.reloads,
     }
 }

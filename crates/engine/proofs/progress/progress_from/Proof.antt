@@ -1,7 +1,7 @@
--- `engine::codec::progress_from` meets its contract.
+-- `engine::progress::progress_from` meets its contract.
 use borrow.Author.Needs.{needs}
-use Rattle.engine.proofs.codec.progress_from.Statement.{statement}
-use Rattle.engine.proofs.codec.progress_from.Tie as tie
+use Rattle.engine.proofs.progress.progress_from.Statement.{statement}
+use Rattle.engine.proofs.progress.progress_from.Tie as tie
 
 phase-from-requires : tie.Need-phase-from-requires
 phase-from-requires c κs = search needs

@@ -1,11 +1,11 @@
--- `engine::codec::stats_from` meets its contract.
+-- `engine::stats::stats_from` meets its contract.
 use mathlib.Core.Path.{_∙_}
 use mir.Val.{SFits}
 use mir.Syntax.{w64}
 use mir.Facts.{toZ-ofZ}
 use borrow.Author.Needs.{needs}
-use Rattle.engine.proofs.codec.stats_from.Statement.{statement}
-use Rattle.engine.proofs.codec.stats_from.Tie as tie
+use Rattle.engine.proofs.stats.stats_from.Statement.{statement}
+use Rattle.engine.proofs.stats.stats_from.Tie as tie
 
 float-of-word-requires : tie.Need-float-of-word-requires
 float-of-word-requires c κs = search needs

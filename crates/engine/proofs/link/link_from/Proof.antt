@@ -1,7 +1,7 @@
--- `engine::codec::link_from` meets its contract.
+-- `engine::link::link_from` meets its contract.
 use borrow.Author.Needs.{needs}
-use Rattle.engine.proofs.codec.link_from.Statement.{statement}
-use Rattle.engine.proofs.codec.link_from.Tie as tie
+use Rattle.engine.proofs.link.link_from.Statement.{statement}
+use Rattle.engine.proofs.link.link_from.Tie as tie
 
 state-from-requires : tie.Need-state-from-requires
 state-from-requires c κs = search needs
