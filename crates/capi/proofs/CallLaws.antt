@@ -14,9 +14,9 @@ use Rattle.names.specs.Directory.{directoryCheck, maxNames, maxNameLength}
 use Rattle.names.proofs.DirectoryLaws.{checked}
 use Rattle.values.specs.declared.value.Value.{Value}
 use Rattle.results.specs.Results.{valueOk}
-use Rattle.engine.specs.Link.{isState}
+use Rattle.heads.specs.Link.{isState}
+use Rattle.heads.specs.declared.link.State.the-variants.{Connected}
 use Rattle.engine.specs.declared.Engine.{Engine}
-use Rattle.engine.specs.declared.link.State.the-variants.{Connected}
 use Rattle.lent.specs.Lent.{wroteAll}
 use Rattle.board.specs.Regions.{part, boardSize}
 use Rattle.board.specs.Board.{Board}

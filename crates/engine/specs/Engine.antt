@@ -9,12 +9,12 @@ use Rattle.ieee.specs.Round.{float}
 use Rattle.memory.specs.Cells.{rowsIn, noRow}
 use Rattle.rounds.specs.declared.tick.Options.{Options}
 use Rattle.rounds.specs.declared.tick.Cycle.{Cycle}
-use Rattle.engine.specs.Link.{freshLink, linkFrom}
-use Rattle.engine.specs.Progress.{freshProgress, progressFrom}
-use Rattle.engine.specs.Stats.{freshStats, statsFrom}
-use Rattle.engine.specs.declared.link.Link.{Link}
-use Rattle.engine.specs.declared.progress.Progress.{Progress}
-use Rattle.engine.specs.declared.stats.Stats.{Stats}
+use Rattle.heads.specs.Link.{freshLink, linkFrom}
+use Rattle.heads.specs.Progress.{freshProgress, progressFrom}
+use Rattle.heads.specs.Stats.{freshStats, statsFrom}
+use Rattle.heads.specs.declared.link.Link.{Link}
+use Rattle.heads.specs.declared.progress.Progress.{Progress}
+use Rattle.heads.specs.declared.stats.Stats.{Stats}
 use Rattle.engine.specs.declared.Engine.{Engine}
 
 -- Rule 9: backoff 1, 2, 5, 10, 10...

@@ -1,20 +1,20 @@
 // The head as a row of 32 cells and back.
 ghost use mathlib.Core.Path.{_≡_};
 ghost use lib.ListN.{getD};
-ghost use Rattle.engine.specs.Link.{linkFrom};
-ghost use Rattle.engine.specs.Progress.{progressFrom};
-ghost use Rattle.engine.specs.Stats.{statsFrom};
+ghost use Rattle.heads.specs.Link.{linkFrom};
+ghost use Rattle.heads.specs.Progress.{progressFrom};
+ghost use Rattle.heads.specs.Stats.{statsFrom};
 ghost use Rattle.engine.specs.Engine.{optionsFrom, cycleFrom, engineFrom};
 use super::Engine;
-use super::link::Link;
-use super::link::link_from;
-use super::link::link_words;
-use super::progress::Progress;
-use super::progress::progress_from;
-use super::progress::progress_words;
-use super::stats::Stats;
-use super::stats::stats_from;
-use super::stats::stats_words;
+use heads::link::Link;
+use heads::link::link_from;
+use heads::link::link_words;
+use heads::progress::Progress;
+use heads::progress::progress_from;
+use heads::progress::progress_words;
+use heads::stats::Stats;
+use heads::stats::stats_from;
+use heads::stats::stats_words;
 use rounds::tick::Cycle;
 use rounds::tick::Options;
 use words::scalar::float_of_word;
@@ -34,6 +34,7 @@ struct CycleWords {
     index: u64,
 }
 
+// Each part of the head from its cells of the row.
 fn options_in(w: [u64; 32]) -> Options
     ensures { λ r. ⌜ r ≡ optionsFrom (getD w 0 0) (getD w 1 0) (getD w 2 0) ⌝ }
 {

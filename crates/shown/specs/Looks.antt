@@ -17,9 +17,9 @@ use Rattle.statistics.specs.Counts.{tierCount}
 use Rattle.statistics.specs.Stats.{groupStats, groupsTold}
 use Rattle.versions.specs.declared.version.Version.{Version}
 use Rattle.versions.specs.declared.version.Version.the-variants.{Null as NoVersion, Is as AVersion}
-use Rattle.engine.specs.Link.{stateNumber}
-use Rattle.engine.specs.declared.link.Link.{Link}
-use Rattle.engine.specs.declared.stats.Stats.{Stats}
+use Rattle.heads.specs.Link.{stateNumber}
+use Rattle.heads.specs.declared.link.Link.{Link}
+use Rattle.heads.specs.declared.stats.Stats.{Stats}
 use Rattle.board.specs.Board.{Board, factsOf}
 use Rattle.shown.specs.declared.head.StateLook.{StateLook}
 use Rattle.shown.specs.declared.head.StatsLook.{StatsLook}

@@ -1,9 +1,9 @@
 // The state and the version, and the statistics of the rounds.
 ghost use mathlib.Core.Path.{_≡_};
 ghost use Rattle.shown.specs.Looks.{knownCell, versionCell, stateOf, noState, statsOf, noStats};
-use engine::link::Link;
-use engine::link::state_number;
-use engine::stats::Stats;
+use heads::link::Link;
+use heads::link::state_number;
+use heads::stats::Stats;
 use versions::version::Version;
 
 // The state, and the version: known is 0 where it is null.

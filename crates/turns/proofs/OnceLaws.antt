@@ -18,10 +18,10 @@ use Rattle.rounds.specs.Round.{round as worked-round}
 use Rattle.writes.specs.Queue.{popped}
 use Rattle.writes.specs.declared.queue.Popped.{Popped}
 use Rattle.writes.specs.declared.queue.Popped.the-variants.{Nothing, Is}
-use Rattle.engine.specs.Stats.{readStats}
-use Rattle.engine.specs.declared.progress.Phase.the-variants.{Read, Version}
-use Rattle.engine.specs.declared.progress.After.{After}
-use Rattle.engine.specs.declared.progress.After.the-variants.{Tail, End}
+use Rattle.heads.specs.Stats.{readStats}
+use Rattle.heads.specs.declared.progress.Phase.the-variants.{Read, Version}
+use Rattle.heads.specs.declared.progress.After.{After}
+use Rattle.heads.specs.declared.progress.After.the-variants.{Tail, End}
 use Rattle.board.specs.Board.{describing}
 use Rattle.worker.specs.Worker.{Worker, At, at, Told, tell, asks, withBoard, phased, tallied, goesOn}
 use Rattle.worker.specs.Reply as reply

@@ -10,8 +10,8 @@ use lib.Ieee.{lt}
 use lib.ListN.{length}
 use borrow.Author.Tests.{eqb-true}
 use Rattle.ieee.specs.Times.{clockOk}
-use Rattle.engine.specs.declared.progress.After.the-variants.{End}
-use Rattle.engine.specs.declared.progress.Phase.the-variants.{Read}
+use Rattle.heads.specs.declared.progress.After.the-variants.{End}
+use Rattle.heads.specs.declared.progress.Phase.the-variants.{Read}
 use Rattle.worker.specs.Reply as reply
 use Rattle.worker.specs.Worker.{Worker, At, Told, tell, phased, goesOn}
 use Rattle.worker.specs.Losing.{isEmpty}

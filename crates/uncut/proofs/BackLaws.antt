@@ -22,14 +22,14 @@ use Rattle.writes.specs.Queue.{popped}
 use Rattle.writes.specs.ReadBack.{readBackTags, readBackFirst}
 use Rattle.writes.specs.declared.queue.Popped.{Popped}
 use Rattle.writes.specs.declared.queue.Popped.the-variants.{Nothing, Is}
-use Rattle.engine.specs.Link.{isState}
-use Rattle.engine.specs.Progress.{phaseNumber}
-use Rattle.engine.specs.Stats.{tailStats, readStats, reconnected}
-use Rattle.engine.specs.declared.link.State.the-variants.{Disconnected, Connecting, Connected}
-use Rattle.engine.specs.declared.progress.After.{After}
-use Rattle.engine.specs.declared.progress.After.the-variants.{Tail, Idle, End}
-use Rattle.engine.specs.declared.progress.Phase.{Phase}
-use Rattle.engine.specs.declared.progress.Phase.the-variants.{Begin, Connect, OpenVersion, Version, Read, Describe, Write, ReadBack, Wait, Backoff, OpenFailedTold, OpenMetaTold, ConnectedTold, MetaTold, ValuesTold, InfoTold, RefusedTold, LostTold, OutcomeTold, BackTold, FailedTold, StaleTold, DisconnectedTold, ConnectingTold, Stopped}
+use Rattle.heads.specs.Link.{isState}
+use Rattle.heads.specs.Progress.{phaseNumber}
+use Rattle.heads.specs.Stats.{tailStats, readStats, reconnected}
+use Rattle.heads.specs.declared.link.State.the-variants.{Disconnected, Connecting, Connected}
+use Rattle.heads.specs.declared.progress.After.{After}
+use Rattle.heads.specs.declared.progress.After.the-variants.{Tail, Idle, End}
+use Rattle.heads.specs.declared.progress.Phase.{Phase}
+use Rattle.heads.specs.declared.progress.Phase.the-variants.{Begin, Connect, OpenVersion, Version, Read, Describe, Write, ReadBack, Wait, Backoff, OpenFailedTold, OpenMetaTold, ConnectedTold, MetaTold, ValuesTold, InfoTold, RefusedTold, LostTold, OutcomeTold, BackTold, FailedTold, StaleTold, DisconnectedTold, ConnectingTold, Stopped}
 use Rattle.board.specs.Board.{staledIn, appliedTo, describing, keptBack}
 use Rattle.board.specs.Creation.{freshBoard}
 use Rattle.worker.specs.Reply as reply

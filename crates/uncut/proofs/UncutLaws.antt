@@ -32,9 +32,9 @@ use Rattle.versions.specs.Versions.{tagTaken, takenAt, tableTaken}
 use Rattle.rounds.specs.Options.{optionsCheck}
 use Rattle.rounds.specs.Round.{Round}
 use Rattle.rounds.specs.declared.tick.Options.{Options}
-use Rattle.engine.specs.Link.{isState}
-use Rattle.engine.specs.declared.link.State.the-variants.{Connected}
-use Rattle.engine.specs.declared.progress.After.the-variants.{End}
+use Rattle.heads.specs.Link.{isState}
+use Rattle.heads.specs.declared.link.State.the-variants.{Connected}
+use Rattle.heads.specs.declared.progress.After.the-variants.{End}
 use Rattle.lent.specs.Lent.{wroteAll, wroteCells}
 use Rattle.lent.proofs.LentLaws.{all-fits}
 use Rattle.histories.specs.Events.{Each}

@@ -4,7 +4,7 @@ use mathlib.Core.List.{List}
 use Prim.Native.Nat.{ℕ, _<_}
 use lib.ListN.{length}
 use Rattle.results.specs.Results.{resultIn}
-use Rattle.engine.specs.declared.progress.Phase.the-variants.{ReadBack, OutcomeTold}
+use Rattle.heads.specs.declared.progress.Phase.the-variants.{ReadBack, OutcomeTold}
 use Rattle.histories.specs.Events.{Each}
 use Rattle.histories.specs.Histories.{atEach}
 use Rattle.capi.specs.Creation.{Setup, creationCheck, freshWorker}

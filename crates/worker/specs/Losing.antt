@@ -3,12 +3,12 @@ use mathlib.Core.Bool.{Bool, true, false, cond}
 use mathlib.Core.List.{List, [], _∷_, map}
 use Prim.Native.Nat.{ℕ}
 use lib.ListN.{length}
+use Rattle.heads.specs.Link.{isState, withAttempt}
+use Rattle.heads.specs.Stats.{counted}
+use Rattle.heads.specs.declared.link.State.the-variants.{Disconnected, Stopped as AtStop}
+use Rattle.heads.specs.declared.progress.Phase.{Phase}
+use Rattle.heads.specs.declared.progress.Phase.the-variants.{Connect, Backoff, FailedTold, StaleTold, DisconnectedTold, Stopped}
 use Rattle.engine.specs.Engine.{backoffAt}
-use Rattle.engine.specs.Link.{isState, withAttempt}
-use Rattle.engine.specs.Stats.{counted}
-use Rattle.engine.specs.declared.link.State.the-variants.{Disconnected, Stopped as AtStop}
-use Rattle.engine.specs.declared.progress.Phase.{Phase}
-use Rattle.engine.specs.declared.progress.Phase.the-variants.{Connect, Backoff, FailedTold, StaleTold, DisconnectedTold, Stopped}
 use Rattle.board.specs.Board.{Board, withQueue, queuedTags, staledIn, changesIn}
 use Rattle.worker.specs.Reply as reply
 use Rattle.worker.specs.Worker.{Worker, Told, tell, asks, withBoard, phased, linked, stated}

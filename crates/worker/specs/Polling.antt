@@ -10,12 +10,12 @@ use Rattle.rounds.specs.Round.{Round}
 use Rattle.writes.specs.Queue.{popped, rest}
 use Rattle.writes.specs.declared.queue.Popped.{Popped}
 use Rattle.writes.specs.declared.queue.Popped.the-variants.{Nothing, Is}
+use Rattle.heads.specs.Progress.{withWriting, withRound}
+use Rattle.heads.specs.Stats.{readStats, tailStats}
+use Rattle.heads.specs.declared.progress.After.{After}
+use Rattle.heads.specs.declared.progress.After.the-variants.{Tail, Idle, End}
+use Rattle.heads.specs.declared.progress.Phase.the-variants.{Read, Describe, Version, Wait}
 use Rattle.engine.specs.Engine.{withCycle, withProgress}
-use Rattle.engine.specs.Progress.{withWriting, withRound}
-use Rattle.engine.specs.Stats.{readStats, tailStats}
-use Rattle.engine.specs.declared.progress.After.{After}
-use Rattle.engine.specs.declared.progress.After.the-variants.{Tail, Idle, End}
-use Rattle.engine.specs.declared.progress.Phase.the-variants.{Read, Describe, Version, Wait}
 use Rattle.board.specs.Board.{Board, withQueue, withPolled, describing, roundOf}
 use Rattle.worker.specs.Reply as reply
 use Rattle.worker.specs.Worker.{Worker, At, Told, Done, tell, asks, worker, withBoard, phased, tallied, goesOn}

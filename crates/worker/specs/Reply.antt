@@ -4,8 +4,8 @@ use Prim.Native.Nat.{ℕ}
 use lib.Ieee.{Float, binary64, ofBits}
 use Rattle.values.specs.declared.value.Value.{Value}
 use Rattle.words.specs.Value.{valueWordsOf}
-use Rattle.engine.specs.Link.{stateNumber}
-use Rattle.engine.specs.declared.link.State.{State}
+use Rattle.heads.specs.Link.{stateNumber}
+use Rattle.heads.specs.declared.link.State.{State}
 use Rattle.worker.specs.declared.reply.Reply.{Reply}
 
 -- a request or an event that carries no more than how many records the lent list has

@@ -9,7 +9,7 @@ ghost use Rattle.worker.specs.Worker.{at, worker};
 ghost use Rattle.worker.specs.Answers.{answer, awaited, isError, either, answersWrite, answers, contents, stepCheck};
 use board::polls::asked_count;
 use engine::Engine;
-use engine::progress::Phase;
+use heads::progress::Phase;
 
 // An answer of the host, but for its list: the kind, the number of a version or of an error, and the number of a message.
 pub struct Answer {

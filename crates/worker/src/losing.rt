@@ -11,15 +11,15 @@ use board::polls::mark_stale;
 use board::queue::fail_writes;
 use board::queue::queued;
 use engine::Engine;
-use engine::link::State;
-use engine::link::is_state;
-use engine::link::with_attempt;
-use engine::link::with_state;
-use engine::progress::Phase;
-use engine::progress::with_phase;
-use engine::stats::more;
 use engine::with_link;
 use engine::with_progress;
+use heads::link::State;
+use heads::link::is_state;
+use heads::link::with_attempt;
+use heads::link::with_state;
+use heads::progress::Phase;
+use heads::progress::with_phase;
+use heads::stats::more;
 
 // Something is asked or told, and the engine waits in the phase p.
 pub fn phased(e: Engine, p: Phase, r: Reply) -> Said

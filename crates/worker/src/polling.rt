@@ -14,15 +14,15 @@ use board::polls::put_asked;
 use board::queue::pop_write;
 use board::talks::ask_descriptions;
 use engine::Engine;
-use engine::progress::After;
-use engine::progress::Phase;
-use engine::progress::with_round;
-use engine::progress::with_writing;
-use engine::stats::read_stats;
-use engine::stats::tail_stats;
 use engine::with_cycle;
 use engine::with_progress;
 use engine::with_stats;
+use heads::progress::After;
+use heads::progress::Phase;
+use heads::progress::with_round;
+use heads::progress::with_writing;
+use heads::stats::read_stats;
+use heads::stats::tail_stats;
 use writes::queue::Popped;
 
 // Nothing is told yet: a round is to be worked out.

@@ -2,8 +2,8 @@
 ghost use mathlib.Core.Path.{_≡_};
 ghost use Rattle.worker.specs.Reply.{listed, write, wait, status, wentThrough, wasRefused, wasLost, refused};
 use engine::Engine;
-use engine::link::State;
-use engine::link::state_number;
+use heads::link::State;
+use heads::link::state_number;
 use values::value::Value;
 use words::value::value_words;
 

@@ -34,9 +34,9 @@ use super::polling::writing;
 use super::reply::Reply;
 use super::reply::Said;
 use engine::Engine;
-use engine::progress::After;
-use engine::progress::Phase;
 use engine::with_clock;
+use heads::progress::After;
+use heads::progress::Phase;
 
 fn connect(board: &mut [u8], out: &mut [u8], e: Engine, a: Answer) -> Said
     requires { ⌜ length (now board) ≡ boardSize ⌝ }

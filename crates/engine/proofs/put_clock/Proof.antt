@@ -3,7 +3,8 @@ use mathlib.Core.Path.{_≡_}
 use denote.Ref.{now}
 use lib.Dec.{T}
 use lib.Ieee.{binary64, fits, ofBits}
-use Rattle.engine.proofs.Laws.{float-back, clock-stored}
+use Rattle.heads.proofs.Laws.{float-back}
+use Rattle.engine.proofs.Laws.{clock-stored}
 use borrow.Author.Needs.{needs}
 use Rattle.engine.proofs.put_clock.Statement.{statement}
 use Rattle.engine.proofs.put_clock.Tie as tie

@@ -2,9 +2,9 @@
 use Rattle.capi.proofs.CallLaws.{alien-call, done-call}
 use Rattle.capi.specs.Memory.{workerIn}
 use Rattle.worker.specs.Worker.{worker}
+use Rattle.heads.specs.declared.link.Link.{Link}
+use Rattle.heads.specs.Link.{stopped}
 use Rattle.engine.specs.declared.Engine.{Engine}
-use Rattle.engine.specs.declared.link.Link.{Link}
-use Rattle.engine.specs.Link.{stopped}
 use Rattle.engine.specs.Engine.{withLink}
 use mathlib.Core.Path.{refl, ap, sym, _∙_}
 use denote.Ref.{now}

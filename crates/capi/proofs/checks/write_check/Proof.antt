@@ -3,8 +3,8 @@ use mathlib.Core.Path.{ap, sym, _∙_}
 use denote.Ref.{now}
 use borrow.Author.Tests.{le-leb, lt-leb, not-true, not-false}
 use lib.Dec.{leb}
-use Rattle.engine.specs.Link.{isState}
-use Rattle.engine.specs.declared.link.State.the-variants.{Connected}
+use Rattle.heads.specs.Link.{isState}
+use Rattle.heads.specs.declared.link.State.the-variants.{Connected}
 use Rattle.engine.specs.declared.Engine.{Engine}
 use Rattle.capi.specs.Calls.{writeCheck}
 use Rattle.capi.specs.Memory.{workerIn}

@@ -1,7 +1,8 @@
 -- `engine::codec::cycle_words` meets its contract.
 use lib.Dec.{T}
 use lib.Ieee.{binary64, fits}
-use Rattle.engine.proofs.Laws.{float-back, cycle-coded}
+use Rattle.heads.proofs.Laws.{float-back}
+use Rattle.engine.proofs.Laws.{cycle-coded}
 use borrow.Author.Needs.{needs}
 use Rattle.engine.proofs.codec.cycle_words.Statement.{statement}
 use Rattle.engine.proofs.codec.cycle_words.Tie as tie

@@ -3,7 +3,8 @@ use Prim.Native.Nat.{_<_}
 use native.Mathlib.Nat.{mod-eq-of-lt}
 use lib.Dec.{T}
 use lib.Ieee.{binary64, fits}
-use Rattle.engine.proofs.Laws.{float-back, engine-coded}
+use Rattle.heads.proofs.Laws.{float-back}
+use Rattle.engine.proofs.Laws.{engine-coded}
 use borrow.Author.Needs.{needs}
 use Rattle.engine.proofs.codec.engine_words.Statement.{statement}
 use Rattle.engine.proofs.codec.engine_words.Tie as tie

@@ -1,7 +1,8 @@
 -- `engine::codec::options_words` meets its contract.
 use lib.Dec.{T}
 use lib.Ieee.{binary64, fits}
-use Rattle.engine.proofs.Laws.{float-back, options-coded}
+use Rattle.heads.proofs.Laws.{float-back}
+use Rattle.engine.proofs.Laws.{options-coded}
 use borrow.Author.Needs.{needs}
 use Rattle.engine.proofs.codec.options_words.Statement.{statement}
 use Rattle.engine.proofs.codec.options_words.Tie as tie

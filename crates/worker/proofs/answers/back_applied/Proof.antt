@@ -9,7 +9,7 @@ use lib.IntN.{ℤ}
 use mir.Syntax.{w64}
 use mir.ValLaws.{toZ-ofZ}
 use Rattle.board.specs.Board.{Board, boardIn, Changing, appliedTo, changesIn}
-use Rattle.engine.specs.declared.progress.Phase.the-variants.{BackTold}
+use Rattle.heads.specs.declared.progress.Phase.the-variants.{BackTold}
 use Rattle.worker.specs.Reply as reply
 use Rattle.worker.specs.Worker.{worker, at, phased, saidIn, tell}
 use Rattle.worker.specs.Losing.{isEmpty}

@@ -11,7 +11,7 @@ use Rattle.lent.specs.Lent.{wroteAll}
 use Rattle.descriptions.specs.Descriptions.{learnt, learntNone}
 use Rattle.board.specs.Regions.{boardSize}
 use Rattle.board.specs.Board.{Board, boardIn, withRecords}
-use Rattle.engine.specs.declared.progress.Phase.the-variants.{InfoTold}
+use Rattle.heads.specs.declared.progress.Phase.the-variants.{InfoTold}
 use Rattle.worker.specs.Reply as reply
 use Rattle.worker.specs.Worker.{saidIn}
 use Rattle.worker.specs.Answers.{descriptions}

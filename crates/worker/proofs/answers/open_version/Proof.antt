@@ -5,11 +5,11 @@ use denote.Ref.{now}
 use Rattle.versions.specs.Versions.{isReloaded, versionTable}
 use Rattle.versions.specs.declared.version.Version.{Version as Number}
 use Rattle.board.specs.Board.{boardIn, withRecords}
+use Rattle.heads.specs.Link.{withVersion}
+use Rattle.heads.specs.Stats.{reloaded}
+use Rattle.heads.specs.declared.progress.Phase.the-variants.{OpenMetaTold}
 use Rattle.engine.specs.Engine.{withLink, withStats}
-use Rattle.engine.specs.Link.{withVersion}
-use Rattle.engine.specs.Stats.{reloaded}
 use Rattle.engine.specs.declared.Engine.{Engine}
-use Rattle.engine.specs.declared.progress.Phase.the-variants.{OpenMetaTold}
 use Rattle.worker.specs.Reply as reply
 use Rattle.worker.specs.Worker.{worker, saidIn, asks}
 use Rattle.worker.specs.Answers.{answer, numberOf, connected, openVersion}

@@ -5,7 +5,7 @@ use Prim.Native.Nat.{ℕ}
 use lib.Dec.{eqb}
 use denote.Ref.{now}
 use Rattle.board.specs.Board.{boardIn}
-use Rattle.engine.specs.declared.progress.Phase.the-variants.{OpenVersion, OpenFailedTold}
+use Rattle.heads.specs.declared.progress.Phase.the-variants.{OpenVersion, OpenFailedTold}
 use Rattle.worker.specs.Reply as reply
 use Rattle.worker.specs.Worker.{worker, saidIn, asks}
 use Rattle.worker.specs.Losing.{isEmpty, failing}

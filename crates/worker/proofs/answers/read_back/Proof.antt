@@ -6,7 +6,7 @@ use denote.Ref.{now}
 use Rattle.values.specs.declared.value.Value.the-variants.{Null}
 use Rattle.writes.specs.ReadBack.{readBackFirst}
 use Rattle.board.specs.Board.{boardIn, keptBack}
-use Rattle.engine.specs.declared.progress.Phase.the-variants.{LostTold, OutcomeTold}
+use Rattle.heads.specs.declared.progress.Phase.the-variants.{LostTold, OutcomeTold}
 use Rattle.worker.specs.Reply as reply
 use Rattle.worker.specs.Worker.{worker, saidIn, asks}
 use Rattle.worker.specs.Answers.{answer, readBack}

@@ -9,7 +9,7 @@ use denote.Ref.{now}
 use Rattle.lent.specs.Lent.{wroteAll}
 use Rattle.writes.specs.ReadBack.{readBackTags}
 use Rattle.board.specs.Board.{Board, boardIn, withAsked}
-use Rattle.engine.specs.declared.progress.Phase.the-variants.{ReadBack, RefusedTold, LostTold}
+use Rattle.heads.specs.declared.progress.Phase.the-variants.{ReadBack, RefusedTold, LostTold}
 use Rattle.worker.specs.Reply as reply
 use Rattle.worker.specs.Worker.{worker, phased, saidIn, tell, asks}
 use Rattle.worker.specs.Answers.{answer, written}

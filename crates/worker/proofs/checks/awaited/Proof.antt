@@ -4,9 +4,9 @@ use mathlib.Core.Path.{_≡_, refl}
 use Prim.Native.Nat.{ℕ}
 use denote.Enum.Declared.{tagOf}
 use types.Run.{OneOf, miss}
-use Rattle.engine.proofs.progress.Phase.{the-type}
-use Rattle.engine.specs.declared.progress.Phase.{Phase}
-use Rattle.engine.specs.declared.progress.Phase.the-variants.{Begin, Connect, OpenVersion, Version, Read, Describe, Write, ReadBack, Wait, Backoff, OpenFailedTold, OpenMetaTold, ConnectedTold, MetaTold, ValuesTold, InfoTold, RefusedTold, LostTold, OutcomeTold, BackTold, FailedTold, StaleTold, DisconnectedTold, ConnectingTold, Stopped}
+use Rattle.heads.proofs.progress.Phase.{the-type}
+use Rattle.heads.specs.declared.progress.Phase.{Phase}
+use Rattle.heads.specs.declared.progress.Phase.the-variants.{Begin, Connect, OpenVersion, Version, Read, Describe, Write, ReadBack, Wait, Backoff, OpenFailedTold, OpenMetaTold, ConnectedTold, MetaTold, ValuesTold, InfoTold, RefusedTold, LostTold, OutcomeTold, BackTold, FailedTold, StaleTold, DisconnectedTold, ConnectingTold, Stopped}
 use Rattle.worker.specs.Answers.{awaited}
 use borrow.Author.Needs.{needs}
 use Rattle.worker.proofs.checks.awaited.Statement.{statement}

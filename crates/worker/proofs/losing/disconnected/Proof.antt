@@ -1,8 +1,8 @@
 -- `worker::losing::disconnected` meets its contract.
 use mathlib.Core.Path.{_≡_, refl, sym, _∙_}
 use mathlib.Core.Bool.{true, false}
-use Rattle.engine.specs.Link.{isState}
-use Rattle.engine.specs.declared.link.State.the-variants.{Disconnected}
+use Rattle.heads.specs.Link.{isState}
+use Rattle.heads.specs.declared.link.State.the-variants.{Disconnected}
 use Rattle.worker.specs.Worker.{worker}
 use Rattle.worker.specs.Losing.{disconnected, backingOff}
 use Rattle.worker.proofs.DoneLaws.{quiet-is}

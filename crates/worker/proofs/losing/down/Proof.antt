@@ -4,7 +4,7 @@ use mathlib.Core.Bool.{true, false}
 use denote.Ref.{now}
 use Rattle.writes.specs.declared.queue.Write.{Write}
 use Rattle.board.specs.Board.{boardIn}
-use Rattle.engine.specs.declared.progress.Phase.the-variants.{FailedTold}
+use Rattle.heads.specs.declared.progress.Phase.the-variants.{FailedTold}
 use Rattle.worker.specs.Worker.{worker}
 use Rattle.worker.specs.Losing.{isEmpty, ended, staling, failing, down}
 use Rattle.worker.proofs.DoneLaws.{done-is}

@@ -7,7 +7,7 @@ use Prim.Native.Nat.{ℕ}
 use denote.Ref.{now}
 use lib.ListN.{length}
 use Rattle.board.specs.Board.{boardIn, staledIn, changesIn}
-use Rattle.engine.specs.declared.progress.Phase.the-variants.{StaleTold}
+use Rattle.heads.specs.declared.progress.Phase.the-variants.{StaleTold}
 use Rattle.worker.specs.Reply as reply
 use Rattle.worker.specs.Worker.{Told, worker, tell, phased}
 use Rattle.worker.specs.Losing.{isEmpty, disconnected, staling}

@@ -3,7 +3,7 @@ use mathlib.Core.Path.{_≡_, refl, sym}
 use mathlib.Core.Bool.{true, false}
 use denote.Ref.{now}
 use Rattle.board.specs.Board.{boardIn}
-use Rattle.engine.specs.declared.progress.Phase.the-variants.{Connect}
+use Rattle.heads.specs.declared.progress.Phase.the-variants.{Connect}
 use Rattle.worker.specs.Reply as reply
 use Rattle.worker.specs.Worker.{worker, asks}
 use Rattle.worker.specs.Losing.{ended, top}

@@ -7,8 +7,8 @@ use mir.Val.{SFits}
 use mir.Syntax.{w64}
 use mir.Facts.{toZ-ofZ}
 use Rattle.board.specs.Board.{boardIn}
-use Rattle.engine.specs.declared.progress.After.the-variants.{Tail}
-use Rattle.engine.specs.declared.progress.Phase.the-variants.{Version}
+use Rattle.heads.specs.declared.progress.After.the-variants.{Tail}
+use Rattle.heads.specs.declared.progress.Phase.the-variants.{Version}
 use Rattle.worker.specs.Reply as reply
 use Rattle.worker.specs.Worker.{worker, at, asks, Done}
 use Rattle.worker.specs.Polling.{writing, checking}

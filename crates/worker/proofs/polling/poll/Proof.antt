@@ -7,7 +7,7 @@ use mir.Val.{SFits}
 use mir.Syntax.{w64}
 use mir.Facts.{toZ-ofZ}
 use Rattle.board.specs.Board.{boardIn}
-use Rattle.engine.specs.declared.progress.After.the-variants.{End}
+use Rattle.heads.specs.declared.progress.After.the-variants.{End}
 use Rattle.worker.specs.Worker.{worker, at, Done}
 use Rattle.worker.specs.Polling.{writing, polled, roundAt, poll}
 use Rattle.worker.proofs.DoneLaws.{done-is}

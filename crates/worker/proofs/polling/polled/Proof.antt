@@ -11,10 +11,10 @@ use Prim.Native.Nat.{ℕ}
 use lib.Ieee.{Float}
 use lib.ListN.{length}
 use Rattle.lent.specs.Lent.{wroteAll}
+use Rattle.heads.specs.Progress.{withRound}
+use Rattle.heads.specs.declared.progress.Phase.the-variants.{Read}
 use Rattle.engine.specs.Engine.{withCycle, withProgress}
-use Rattle.engine.specs.Progress.{withRound}
 use Rattle.engine.specs.declared.Engine.{Engine}
-use Rattle.engine.specs.declared.progress.Phase.the-variants.{Read}
 use Rattle.worker.specs.declared.reply.Said.{Said}
 use Rattle.worker.specs.Reply as reply
 use Rattle.worker.specs.Worker.{Worker, worker, at, tell, phased, saidIn, Done}

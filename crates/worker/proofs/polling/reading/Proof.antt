@@ -10,10 +10,10 @@ use Rattle.board.specs.Board.{Board, boardIn, describing}
 use Prim.Native.Nat.{ℕ}
 use lib.ListN.{length}
 use Rattle.lent.specs.Lent.{wroteAll}
+use Rattle.heads.specs.Stats.{readStats}
+use Rattle.heads.specs.declared.progress.Phase.the-variants.{Describe}
 use Rattle.engine.specs.Engine.{withStats}
-use Rattle.engine.specs.Stats.{readStats}
 use Rattle.engine.specs.declared.Engine.{Engine}
-use Rattle.engine.specs.declared.progress.Phase.the-variants.{Describe}
 use Rattle.worker.specs.declared.reply.Said.{Said}
 use Rattle.worker.specs.Reply as reply
 use Rattle.worker.specs.Worker.{Worker, worker, at, tell, phased, saidIn, Done}

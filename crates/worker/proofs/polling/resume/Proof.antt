@@ -6,7 +6,7 @@ use mir.Val.{SFits}
 use mir.Syntax.{w64}
 use mir.Facts.{toZ-ofZ}
 use Rattle.board.specs.Board.{boardIn}
-use Rattle.engine.specs.declared.progress.After.the-variants.{Tail, Idle, End}
+use Rattle.heads.specs.declared.progress.After.the-variants.{Tail, Idle, End}
 use Rattle.worker.specs.Worker.{worker, at, Quietly}
 use Rattle.worker.specs.Losing.{ended}
 use Rattle.worker.specs.Polling.{tail, idle, resume}

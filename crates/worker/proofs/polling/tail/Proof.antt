@@ -5,8 +5,8 @@ use lib.Ieee.{le}
 use mir.Val.{SFits}
 use mir.Syntax.{w64}
 use mir.Facts.{toZ-ofZ}
+use Rattle.heads.specs.Stats.{tailStats}
 use Rattle.engine.specs.Engine.{withStats}
-use Rattle.engine.specs.Stats.{tailStats}
 use Rattle.worker.specs.Worker.{worker, at}
 use Rattle.worker.specs.Polling.{polls, elapsed, idle, tail}
 use Rattle.worker.proofs.DoneLaws.{quiet-is}

@@ -8,10 +8,10 @@ use mir.Val.{SFits}
 use mir.Syntax.{w64}
 use mir.Facts.{toZ-ofZ}
 use types.Run.{OneOf, miss}
-use Rattle.engine.proofs.progress.Phase.{the-type}
-use Rattle.engine.specs.declared.progress.Phase.{Phase}
-use Rattle.engine.specs.declared.progress.Phase.the-variants.{Begin, Connect, OpenVersion, Version, Read, Describe, Write, ReadBack, Wait, Backoff, OpenFailedTold, OpenMetaTold, ConnectedTold, MetaTold, ValuesTold, InfoTold, RefusedTold, LostTold, OutcomeTold, BackTold, FailedTold, StaleTold, DisconnectedTold, ConnectingTold, Stopped}
-use Rattle.engine.specs.declared.progress.After.the-variants.{Tail}
+use Rattle.heads.proofs.progress.Phase.{the-type}
+use Rattle.heads.specs.declared.progress.Phase.{Phase}
+use Rattle.heads.specs.declared.progress.Phase.the-variants.{Begin, Connect, OpenVersion, Version, Read, Describe, Write, ReadBack, Wait, Backoff, OpenFailedTold, OpenMetaTold, ConnectedTold, MetaTold, ValuesTold, InfoTold, RefusedTold, LostTold, OutcomeTold, BackTold, FailedTold, StaleTold, DisconnectedTold, ConnectingTold, Stopped}
+use Rattle.heads.specs.declared.progress.After.the-variants.{Tail}
 use Rattle.board.specs.Board.{boardIn}
 use Rattle.worker.specs.Reply as reply
 use Rattle.worker.specs.Worker.{Worker, At, at, worker, asks}
