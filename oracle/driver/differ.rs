@@ -6,7 +6,7 @@
 use super::*;
 use wordzike::{self as wz, Engine, Event as Told, Outcome, Quality, Reply, Request, State};
 
-/// What the engine waits for, as crates/engine numbers it in the head, and the reply that comes with it.
+/// What the engine waits for, as crates/heads numbers it, and the reply that comes with it.
 const PHASES: [(&str, &str); 25] = [
     ("Begin", ""),
     ("Connect", "connect"),

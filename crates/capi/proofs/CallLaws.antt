@@ -15,6 +15,7 @@ use Rattle.names.proofs.DirectoryLaws.{checked}
 use Rattle.values.specs.declared.value.Value.{Value}
 use Rattle.results.specs.Results.{valueOk}
 use Rattle.heads.specs.Link.{isState}
+use Rattle.heads.specs.declared.link.State.the-variants.{Connected}
 use Rattle.engine.specs.declared.Engine.{Engine}
 use Rattle.heads.specs.declared.link.State.the-variants.{Connected}
 use Rattle.lent.specs.Lent.{wroteAll}

@@ -13,6 +13,8 @@ use Rattle.tiers.specs.Tiers.{setTier}
 use Rattle.panel.specs.Panel.{panelCheck, loadedList}
 use Rattle.writes.specs.Queue.{queuedWith}
 use Rattle.writes.specs.declared.queue.Write.{Write}
+use Rattle.heads.specs.Link.{isState, stopped}
+use Rattle.heads.specs.declared.link.State.the-variants.{Connected}
 use Rattle.engine.specs.Engine.{withClock, withLink}
 use Rattle.heads.specs.Link.{isState, stopped}
 use Rattle.heads.specs.declared.link.State.the-variants.{Connected}

@@ -19,6 +19,7 @@ use super::whole::put_head;
 use super::whole::set_tier;
 use heads::link::stopped;
 use engine::with_link;
+use heads::link::stopped;
 use words::value::value_from;
 use worker::checks::Answer;
 use replies::reply::Reply;

@@ -6,99 +6,41 @@ use Prim.Native.Nat.{ℕ, zero, suc, _/_, _%_, _<_, _≤_, min}
 use native.Mathlib.Omega.{arith}
 use borrow.Author.Tests.{ltb-true, ltb-false}
 use lib.Dec.{ltb}
-use lib.Ieee.{Float, binary64, ofBits, ofInt}
+use lib.Ieee.{Float, binary64, ofBits}
 use lib.ListN.{length, getD, set}
-use mir.Val.{toZ}
-use mir.Syntax.{w64}
 use lib.Seq.{getD-set-same}
 use Rattle.ieee.specs.Round.{float}
 use Rattle.memory.specs.Cells.{rowsIn, noRow}
 use Rattle.memory.proofs.RowLaws.{length-rows, rows-kept, row-long, spread, spread-is}
-use Rattle.versions.specs.Versions.{versionFrom}
-use Rattle.engine.specs.Link.{stateFrom, stateNumber}
-use Rattle.engine.specs.Progress.{phaseFrom, phaseNumber, afterFrom, afterNumber}
-use Rattle.engine.specs.Engine.{linkFrom, progressFrom, statsFrom, engineFrom, engineIn, stored, withClock, backoffAt}
-use Rattle.engine.specs.declared.link.State.{State}
-use Rattle.engine.specs.declared.link.State.the-variants.{Connecting, Connected, Disconnected, Stopped}
-use Rattle.engine.specs.declared.link.Link.{Link}
-use Rattle.engine.specs.declared.progress.After.{After}
-use Rattle.engine.specs.declared.progress.After.the-variants.{Tail, Idle, End}
-use Rattle.engine.specs.declared.progress.Phase.{Phase}
-use Rattle.engine.specs.declared.progress.Phase.the-variants.{Begin, Connect, OpenVersion, Version, Read, Describe, Write, ReadBack, Wait, Backoff, OpenFailedTold, OpenMetaTold, ConnectedTold, MetaTold, ValuesTold, InfoTold, RefusedTold, LostTold, OutcomeTold, BackTold, FailedTold, StaleTold, DisconnectedTold, ConnectingTold, Stopped as Halted}
-use Rattle.engine.specs.declared.progress.Progress.{Progress}
-use Rattle.engine.specs.declared.stats.Stats.{Stats}
+use Rattle.rounds.specs.declared.tick.Options.{Options}
+use Rattle.rounds.specs.declared.tick.Cycle.{Cycle}
+use Rattle.heads.specs.Link.{linkFrom}
+use Rattle.heads.specs.Progress.{progressFrom}
+use Rattle.heads.specs.Stats.{statsFrom}
+use Rattle.engine.specs.Engine.{optionsFrom, cycleFrom, engineFrom, engineIn, stored, withClock, backoffAt}
 use Rattle.engine.specs.declared.Engine.{Engine}
 
-pub state-coded : (s : State) → stateFrom (stateNumber s) ≡ s
-state-coded Connecting = refl
-state-coded Connected = refl
-state-coded Disconnected = refl
-state-coded Stopped = refl
+pub options-coded : (x : Options) (cycle period grace : ℕ)
+    → ofBits binary64 cycle ≡ x .cycle → ofBits binary64 period ≡ x .period → ofBits binary64 grace ≡ x .grace
+    → optionsFrom cycle period grace ≡ x
+options-coded x cycle period grace e1 e2 e3 = rw (e1, e2, e3)
 
-pub after-coded : (a : After) → afterFrom (afterNumber a) ≡ a
-after-coded Tail = refl
-after-coded Idle = refl
-after-coded End = refl
-
-pub phase-coded : (p : Phase) → phaseFrom (phaseNumber p) ≡ p
-unfolding phaseFrom
-phase-coded Begin = refl
-phase-coded Connect = refl
-phase-coded OpenVersion = refl
-phase-coded Version = refl
-phase-coded Read = refl
-phase-coded Describe = refl
-phase-coded Write = refl
-phase-coded ReadBack = refl
-phase-coded Wait = refl
-phase-coded Backoff = refl
-phase-coded OpenFailedTold = refl
-phase-coded OpenMetaTold = refl
-phase-coded ConnectedTold = refl
-phase-coded MetaTold = refl
-phase-coded ValuesTold = refl
-phase-coded InfoTold = refl
-phase-coded RefusedTold = refl
-phase-coded LostTold = refl
-phase-coded OutcomeTold = refl
-phase-coded BackTold = refl
-phase-coded FailedTold = refl
-phase-coded StaleTold = refl
-phase-coded DisconnectedTold = refl
-phase-coded ConnectingTold = refl
-phase-coded Halted = refl
-
-pub link-coded : (x : Link) (state stopping known number : ℕ)
-    → state ≡ stateNumber (x .state) → ltb 0 stopping ≡ x .stopping → versionFrom known number ≡ x .version
-    → linkFrom state stopping known number (x .attempt) ≡ x
-link-coded x state stopping known number e1 e2 e3 = rw (ap stateFrom e1 ∙ state-coded (x .state), e2, e3)
-
-pub progress-coded : (x : Progress) (phase after start tick boundary tag : ℕ)
-    → phase ≡ phaseNumber (x .phase) → after ≡ afterNumber (x .after) → ofBits binary64 start ≡ x .start → ofBits binary64 tick ≡ x .tick
-    → ltb 0 boundary ≡ x .boundary → tag % 65536 ≡ x .tag
-    → progressFrom phase after start tick boundary tag ≡ x
-progress-coded x phase after start tick boundary tag e1 e2 e3 e4 e5 e6 =
-    rw (ap phaseFrom e1 ∙ phase-coded (x .phase), ap afterFrom e2 ∙ after-coded (x .after), e3, e4, e5, e6)
-
-pub stats-coded : (x : Stats) (timed ms ts : ℕ)
-    → ltb 0 timed ≡ x .timed → ofBits binary64 ms ≡ x .ms → toZ w64 ts ≡ x .ts
-    → statsFrom timed ms ts (x .tags) (x .overruns) (x .reconnects) (x .reloads) ≡ x
-stats-coded x timed ms ts e1 e2 e3 = rw (e1, e2, e3)
+pub cycle-coded : (x : Cycle) (begun last : ℕ) → ltb 0 begun ≡ x .begun → ofBits binary64 last ≡ x .last → cycleFrom begun last (x .index) ≡ x
+cycle-coded x begun last e1 e2 = rw (e1, e2)
 
 pub engine-coded : (x : Engine)
-    (length period grace begun last clock count state stopping known number attempt phase after start tick boundary tag timed ms ts tags overruns reconnects reloads : ℕ)
-    → ofBits binary64 length ≡ x .options .cycle → ofBits binary64 period ≡ x .options .period → ofBits binary64 grace ≡ x .options .grace
-    → ltb 0 begun ≡ x .cycle .begun → ofBits binary64 last ≡ x .cycle .last → ofBits binary64 clock ≡ x .clock → count % 65536 ≡ x .count
+    (length period grace begun last index clock count state stopping known number attempt phase after start tick boundary tag timed ms ts tags overruns reconnects reloads : ℕ)
+    → optionsFrom length period grace ≡ x .options → cycleFrom begun last index ≡ x .cycle → ofBits binary64 clock ≡ x .clock → count % 65536 ≡ x .count
     → linkFrom state stopping known number attempt ≡ x .link
     → progressFrom phase after start tick boundary tag ≡ x .progress
     → statsFrom timed ms ts tags overruns reconnects reloads ≡ x .stats
     → engineFrom (
-    length ∷ period ∷ grace ∷ begun ∷ last ∷ x .cycle .index ∷ clock ∷ count ∷ state ∷ stopping ∷ known ∷ number ∷ attempt ∷ phase ∷ after ∷ start ∷ tick ∷ boundary ∷ tag
+    length ∷ period ∷ grace ∷ begun ∷ last ∷ index ∷ clock ∷ count ∷ state ∷ stopping ∷ known ∷ number ∷ attempt ∷ phase ∷ after ∷ start ∷ tick ∷ boundary ∷ tag
     ∷ timed ∷ ms ∷ ts ∷ tags ∷ overruns ∷ reconnects ∷ reloads ∷ 0 ∷ 0 ∷ 0 ∷ 0 ∷ 0 ∷ 0 ∷ []
     ) ≡ x
 unfolding engineFrom
-engine-coded x length period grace begun last clock count state stopping known number attempt phase after start tick boundary tag timed ms ts tags overruns reconnects reloads e1 e2 e3 e4 e5 e6 e7 e8 e9 e10 =
-    rw (e8, e9, e10, e1, e2, e3, e4, e5, e6, e7)
+engine-coded x length period grace begun last index clock count state stopping known number attempt phase after start tick boundary tag timed ms ts tags overruns reconnects reloads e1 e2 e3 e4 e5 e6 e7 =
+    rw (e1, e2, e3, e4, e5, e6, e7)
 
 engine-at : (bs : List ℕ) → engineIn bs ≡ engineFrom (getD (rowsIn bs) 0 noRow)
 unfolding engineIn

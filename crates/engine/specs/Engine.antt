@@ -5,19 +5,16 @@ use Prim.Native.Nat.{ℕ, _/_, _%_, min}
 use lib.Dec.{ltb}
 use lib.Ieee.{Float, binary64, ofBits, add}
 use lib.ListN.{length, getD}
-use mir.Val.{toZ}
-use mir.Syntax.{w64}
 use Rattle.ieee.specs.Round.{float}
 use Rattle.memory.specs.Cells.{rowsIn, noRow}
 use Rattle.rounds.specs.declared.tick.Options.{Options}
 use Rattle.rounds.specs.declared.tick.Cycle.{Cycle}
-use Rattle.versions.specs.Versions.{versionFrom}
-use Rattle.engine.specs.Link.{freshLink, stateFrom}
-use Rattle.engine.specs.Progress.{freshProgress, phaseFrom, afterFrom}
-use Rattle.engine.specs.Stats.{freshStats}
-use Rattle.engine.specs.declared.link.Link.{Link}
-use Rattle.engine.specs.declared.progress.Progress.{Progress}
-use Rattle.engine.specs.declared.stats.Stats.{Stats}
+use Rattle.heads.specs.Link.{freshLink, linkFrom}
+use Rattle.heads.specs.Progress.{freshProgress, progressFrom}
+use Rattle.heads.specs.Stats.{freshStats, statsFrom}
+use Rattle.heads.specs.declared.link.Link.{Link}
+use Rattle.heads.specs.declared.progress.Progress.{Progress}
+use Rattle.heads.specs.declared.stats.Stats.{Stats}
 use Rattle.engine.specs.declared.Engine.{Engine}
 
 -- Rule 9: backoff 1, 2, 5, 10, 10...
@@ -55,35 +52,17 @@ withCycle e x = record { options = e .options; cycle = x; clock = e .clock; coun
 abbrev pub withClock : Engine → Float → Engine
 withClock e x = record { options = e .options; cycle = e .cycle; clock = x; count = e .count; link = e .link; progress = e .progress; stats = e .stats }
 
-abbrev pub linkFrom : ℕ → ℕ → ℕ → ℕ → ℕ → Link
-linkFrom state stopping known number attempt = record { state = stateFrom state; stopping = ltb 0 stopping; version = versionFrom known number; attempt = attempt }
+abbrev pub optionsFrom : ℕ → ℕ → ℕ → Options
+optionsFrom cycle period grace = record { cycle = ofBits binary64 cycle; period = ofBits binary64 period; grace = ofBits binary64 grace }
 
-abbrev pub progressFrom : ℕ → ℕ → ℕ → ℕ → ℕ → ℕ → Progress
-progressFrom phase after start tick boundary tag = record {
-  phase = phaseFrom phase;
-  after = afterFrom after;
-  start = ofBits binary64 start;
-  tick = ofBits binary64 tick;
-  boundary = ltb 0 boundary;
-  tag = tag % 65536;
-}
-
-abbrev pub statsFrom : ℕ → ℕ → ℕ → ℕ → ℕ → ℕ → ℕ → Stats
-statsFrom timed ms ts tags overruns reconnects reloads = record {
-  timed = ltb 0 timed;
-  ms = ofBits binary64 ms;
-  ts = toZ w64 ts;
-  tags = tags;
-  overruns = overruns;
-  reconnects = reconnects;
-  reloads = reloads;
-}
+abbrev pub cycleFrom : ℕ → ℕ → ℕ → Cycle
+cycleFrom begun last index = record { begun = ltb 0 begun; last = ofBits binary64 last; index = index }
 
 -- the head that a row holds
 unfoldable pub engineFrom : List ℕ → Engine
 engineFrom ws = record {
-  options = record { cycle = ofBits binary64 (getD ws 0 0); period = ofBits binary64 (getD ws 1 0); grace = ofBits binary64 (getD ws 2 0) };
-  cycle = record { begun = ltb 0 (getD ws 3 0); last = ofBits binary64 (getD ws 4 0); index = getD ws 5 0 };
+  options = optionsFrom (getD ws 0 0) (getD ws 1 0) (getD ws 2 0);
+  cycle = cycleFrom (getD ws 3 0) (getD ws 4 0) (getD ws 5 0);
   clock = ofBits binary64 (getD ws 6 0);
   count = getD ws 7 0 % 65536;
   link = linkFrom (getD ws 8 0) (getD ws 9 0) (getD ws 10 0) (getD ws 11 0) (getD ws 12 0);

@@ -1,16 +1,13 @@
 // The head of an engine: what it keeps beside its board. It is one row of lent memory.
 pub mod codec;
-pub mod link;
-pub mod progress;
-pub mod stats;
 
 ghost use mathlib.Core.Path.{_≡_};
 ghost use Rattle.engine.specs.Engine.{freshEngine, engineIn, stored, backoffAt, retryAt, withLink, withProgress, withStats, withCycle, withClock};
-use link::Link;
-use progress::Progress;
+use heads::link::Link;
+use heads::progress::Progress;
+use heads::stats::Stats;
 use rounds::tick::Cycle;
 use rounds::tick::Options;
-use stats::Stats;
 
 // `clock` is the last reading accepted, `count` how many names the directory has.
 pub struct Engine {

@@ -30,6 +30,8 @@ use Rattle.settings.specs.Configured as settings-Configured
 use Rattle.versions.specs.Versions as versions-Versions
 use Rattle.heads.specs.Progress as engine-Progress
 use Rattle.heads.specs.Stats as engine-Stats
+use Rattle.heads.specs.Progress as heads-Progress
+use Rattle.heads.specs.Stats as heads-Stats
 use Rattle.engine.specs.Engine as engine-Engine
 use Rattle.writes.specs.Queue as writes-Queue
 use Rattle.board.specs.Regions as board-Regions
@@ -63,7 +65,7 @@ lent = replicate 38400 0
 
 -- creation accepts this setup; the memory holds a fresh engine, and is as long as the one that was lent
 computed : (creationCheck setup ≡ 0) × (workerIn fresh ≡ freshWorker setup) × (length fresh ≡ 38400)
-unfolding lists-Keep.keep lists-Keep.upTo names-Order.compared names-Order.lowerOf names-Bits.lastDot names-Bits.allDigits names-Bits.splitBit names-Directory.cut names-Directory.goodEnds names-Directory.goodBytes names-Directory.goodNames names-Directory.risingFrom names-Directory.rising names-Directory.directoryCheck names-Keys.below names-Keys.find words-Entry.entryFrom words-Entry.entryWordsOf memory-Blocks.blocks memory-Cells.cellsIn memory-Cells.rowsIn memory-Halves.halvesIn tags-Lists.listIn ranks-Ranks.over table-Row.tagFrom table-Table.tableIn groups-Groups.groupFrom groups-Groups.groupsIn groups-Groups.groupRead rounds-Options.optionsCheck settings-Records.recordsOf settings-Records.every settings-Settings.settingFrom settings-Settings.settingIn settings-Settings.settingOk settings-Settings.settingsOk settings-Configured.configuredFrom settings-Configured.givenGroups settings-Configured.groupOk settings-Configured.configuredOk settings-Configured.groupPlaces settings-Configured.configuredIn versions-Versions.tagTaken versions-Versions.eachAt versions-Versions.versionTable engine-Progress.phaseFrom engine-Stats.tailStats engine-Engine.engineFrom engine-Engine.engineIn engine-Engine.stored writes-Queue.writeFrom writes-Queue.placesIn writes-Queue.queueIn board-Regions.regionsIn board-Board.boardOf board-Board.boardIn board-Creation.freshBoard capi-Memory.workerIn capi-Creation.creationCheck ieee-lib.eq ieee-lib.le ieee-lib.lt ieee-lib.add ieee-lib.sub ieee-lib.mul ieee-lib.div ieee-lib.neg ieee-lib.ofInt ieee-lib.round ieee-lib.toUnsigned ieee-lib.ofBits ieee-lib.toBits
+unfolding lists-Keep.keep lists-Keep.upTo names-Order.compared names-Order.lowerOf names-Bits.lastDot names-Bits.allDigits names-Bits.splitBit names-Directory.cut names-Directory.goodEnds names-Directory.goodBytes names-Directory.goodNames names-Directory.risingFrom names-Directory.rising names-Directory.directoryCheck names-Keys.below names-Keys.find words-Entry.entryFrom words-Entry.entryWordsOf memory-Blocks.blocks memory-Cells.cellsIn memory-Cells.rowsIn memory-Halves.halvesIn tags-Lists.listIn ranks-Ranks.over table-Row.tagFrom table-Table.tableIn groups-Groups.groupFrom groups-Groups.groupsIn groups-Groups.groupRead rounds-Options.optionsCheck settings-Records.recordsOf settings-Records.every settings-Settings.settingFrom settings-Settings.settingIn settings-Settings.settingOk settings-Settings.settingsOk settings-Configured.configuredFrom settings-Configured.givenGroups settings-Configured.groupOk settings-Configured.configuredOk settings-Configured.groupPlaces settings-Configured.configuredIn versions-Versions.tagTaken versions-Versions.eachAt versions-Versions.versionTable heads-Progress.phaseFrom heads-Stats.tailStats engine-Engine.engineFrom engine-Engine.engineIn engine-Engine.stored writes-Queue.writeFrom writes-Queue.placesIn writes-Queue.queueIn board-Regions.regionsIn board-Board.boardOf board-Board.boardIn board-Creation.freshBoard capi-Memory.workerIn capi-Creation.creationCheck ieee-lib.eq ieee-lib.le ieee-lib.lt ieee-lib.add ieee-lib.sub ieee-lib.mul ieee-lib.div ieee-lib.neg ieee-lib.ofInt ieee-lib.round ieee-lib.toUnsigned ieee-lib.ofBits ieee-lib.toBits
 computed = (refl, refl, refl)
 
 pub fresh-long : length fresh ≡ 38400

@@ -7,6 +7,7 @@ use lib.Dec.{eqb, eqb·suc-zero}
 use lib.ListN.{length}
 use Rattle.lent.specs.Lent.{wroteAll, records}
 use Rattle.board.specs.Board.{Board, boardIn, changesIn}
+use Rattle.heads.specs.declared.progress.Phase.{Phase}
 use Rattle.engine.specs.declared.Engine.{Engine}
 use Rattle.heads.specs.declared.progress.Phase.{Phase}
 use Rattle.worker.specs.declared.reply.Reply.{Reply}

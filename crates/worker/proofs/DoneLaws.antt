@@ -7,6 +7,7 @@ use lib.ListN.{length}
 use Rattle.lent.specs.Lent.{wroteAll, wroteCells, hasRoom}
 use Rattle.lent.proofs.LentLaws.{wrote-none}
 use Rattle.board.specs.Board.{Board, boardIn}
+use Rattle.heads.specs.declared.progress.Phase.{Phase}
 use Rattle.engine.specs.declared.Engine.{Engine}
 use Rattle.heads.specs.declared.progress.Phase.{Phase}
 use Rattle.worker.specs.declared.reply.Reply.{Reply}

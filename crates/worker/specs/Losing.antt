@@ -3,6 +3,11 @@ use mathlib.Core.Bool.{Bool, true, false, cond}
 use mathlib.Core.List.{List, [], _∷_, map}
 use Prim.Native.Nat.{ℕ}
 use lib.ListN.{length}
+use Rattle.heads.specs.Link.{isState, withAttempt}
+use Rattle.heads.specs.Stats.{counted}
+use Rattle.heads.specs.declared.link.State.the-variants.{Disconnected, Stopped as AtStop}
+use Rattle.heads.specs.declared.progress.Phase.{Phase}
+use Rattle.heads.specs.declared.progress.Phase.the-variants.{Connect, Backoff, FailedTold, StaleTold, DisconnectedTold, Stopped}
 use Rattle.engine.specs.Engine.{backoffAt}
 use Rattle.heads.specs.Link.{isState, withAttempt}
 use Rattle.heads.specs.Stats.{counted}

@@ -10,6 +10,11 @@ use Rattle.rounds.specs.Round.{Round}
 use Rattle.writes.specs.Queue.{popped, rest}
 use Rattle.writes.specs.declared.queue.Popped.{Popped}
 use Rattle.writes.specs.declared.queue.Popped.the-variants.{Nothing, Is}
+use Rattle.heads.specs.Progress.{withWriting, withRound}
+use Rattle.heads.specs.Stats.{readStats, tailStats}
+use Rattle.heads.specs.declared.progress.After.{After}
+use Rattle.heads.specs.declared.progress.After.the-variants.{Tail, Idle, End}
+use Rattle.heads.specs.declared.progress.Phase.the-variants.{Read, Describe, Version, Wait}
 use Rattle.engine.specs.Engine.{withCycle, withProgress}
 use Rattle.heads.specs.Progress.{withWriting, withRound}
 use Rattle.heads.specs.Stats.{readStats, tailStats}

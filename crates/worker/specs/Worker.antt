@@ -10,6 +10,13 @@ use lib.IntN.{ℤ}
 use lib.ListN.{length}
 use Rattle.lent.specs.Lent.{wroteAll}
 use Rattle.rounds.specs.Round.{Round}
+use Rattle.heads.specs.Link.{withState}
+use Rattle.heads.specs.Progress.{withPhase}
+use Rattle.heads.specs.declared.link.Link.{Link}
+use Rattle.heads.specs.declared.link.State.{State}
+use Rattle.heads.specs.declared.progress.Phase.{Phase}
+use Rattle.heads.specs.declared.progress.Progress.{Progress}
+use Rattle.heads.specs.declared.stats.Stats.{Stats}
 use Rattle.engine.specs.Engine.{withLink, withProgress, withStats}
 use Rattle.heads.specs.Link.{withState}
 use Rattle.heads.specs.Progress.{withPhase}

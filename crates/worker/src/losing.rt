@@ -20,6 +20,13 @@ use heads::progress::with_phase;
 use heads::stats::more;
 use engine::with_link;
 use engine::with_progress;
+use heads::link::State;
+use heads::link::is_state;
+use heads::link::with_attempt;
+use heads::link::with_state;
+use heads::progress::Phase;
+use heads::progress::with_phase;
+use heads::stats::more;
 
 // Something is asked or told, and the engine waits in the phase p.
 pub fn phased(e: Engine, p: Phase, r: Reply) -> Said

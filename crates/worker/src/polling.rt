@@ -23,6 +23,12 @@ use heads::stats::tail_stats;
 use engine::with_cycle;
 use engine::with_progress;
 use engine::with_stats;
+use heads::progress::After;
+use heads::progress::Phase;
+use heads::progress::with_round;
+use heads::progress::with_writing;
+use heads::stats::read_stats;
+use heads::stats::tail_stats;
 use writes::queue::Popped;
 
 // Nothing is told yet: a round is to be worked out.

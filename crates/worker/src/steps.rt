@@ -37,6 +37,8 @@ use engine::Engine;
 use heads::progress::After;
 use heads::progress::Phase;
 use engine::with_clock;
+use heads::progress::After;
+use heads::progress::Phase;
 
 fn connect(board: &mut [u8], out: &mut [u8], e: Engine, a: Answer) -> Said
     requires { ⌜ length (now board) ≡ boardSize ⌝ }

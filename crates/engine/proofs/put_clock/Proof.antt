@@ -1,9 +1,9 @@
 -- `engine::put_clock` meets its contract.
-use mathlib.Core.Path.{_≡_, ap, _∙_}
+use mathlib.Core.Path.{_≡_}
 use denote.Ref.{now}
 use lib.Dec.{T}
 use lib.Ieee.{binary64, fits, ofBits}
-use lib.Ieee.Bits.{ofBits-toBits}
+use Rattle.heads.proofs.Laws.{float-back}
 use Rattle.engine.proofs.Laws.{clock-stored}
 use borrow.Author.Needs.{needs}
 use Rattle.engine.proofs.put_clock.Statement.{statement}
@@ -24,7 +24,7 @@ returns c =
     let v = c .before .before .before .before .word-of-float in
     let p = c .before .before .put-row-cell in
     let fit : T (fits binary64 (a .clock)) = search needs in
-    let back : ofBits binary64 (v .result) ≡ a .clock = ap (ofBits binary64) (v .ensures) ∙ ofBits-toBits binary64 (a .clock) fit in
+    let back : ofBits binary64 (v .result) ≡ a .clock = float-back _ _ fit (v .ensures) in
     clock-stored (now (a .s)) (p .last .0) (v .result) (a .clock) (p .kept .0) (p .ensures) back
 
 pub put-clock-spec : {M : Type 1} → statement M

@@ -2,6 +2,8 @@
 use Rattle.capi.proofs.CallLaws.{alien-call, done-call}
 use Rattle.capi.specs.Memory.{workerIn}
 use Rattle.replies.specs.Worker.{worker}
+use Rattle.heads.specs.declared.link.Link.{Link}
+use Rattle.heads.specs.Link.{stopped}
 use Rattle.engine.specs.declared.Engine.{Engine}
 use Rattle.heads.specs.declared.link.Link.{Link}
 use Rattle.heads.specs.Link.{stopped}

@@ -1,6 +1,8 @@
 -- `worker::answers::connected` meets its contract.
 use mathlib.Core.Path.{_≡_, ap, sym, _∙_}
 use mathlib.Core.Bool.{true, false}
+use Rattle.heads.specs.Link.{isState, withAttempt}
+use Rattle.heads.specs.declared.link.State.the-variants.{Connected}
 use Rattle.engine.specs.Engine.{withLink}
 use Rattle.heads.specs.Link.{isState, withAttempt}
 use Rattle.heads.specs.declared.link.State.the-variants.{Connected}

@@ -5,6 +5,9 @@ use denote.Ref.{now}
 use Rattle.versions.specs.Versions.{isReloaded, versionTable}
 use Rattle.versions.specs.declared.version.Version.{Version as Number}
 use Rattle.board.specs.Board.{boardIn, withRecords}
+use Rattle.heads.specs.Link.{withVersion}
+use Rattle.heads.specs.Stats.{reloaded}
+use Rattle.heads.specs.declared.progress.Phase.the-variants.{OpenMetaTold}
 use Rattle.engine.specs.Engine.{withLink, withStats}
 use Rattle.heads.specs.Link.{withVersion}
 use Rattle.heads.specs.Stats.{reloaded}

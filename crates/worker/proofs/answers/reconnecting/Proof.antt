@@ -3,6 +3,10 @@ use mathlib.Core.Path.{_≡_, refl, ap, sym, _∙_}
 use mathlib.Core.Bool.{Bool, true, false, cond}
 use denote.Ref.{now}
 use Rattle.board.specs.Board.{boardIn}
+use Rattle.heads.specs.Link.{isState}
+use Rattle.heads.specs.Stats.{reconnected}
+use Rattle.heads.specs.declared.link.State.the-variants.{Connecting}
+use Rattle.heads.specs.declared.progress.Phase.the-variants.{ConnectingTold}
 use Rattle.engine.specs.Engine.{withLink, withStats}
 use Rattle.heads.specs.Link.{isState}
 use Rattle.heads.specs.Stats.{reconnected}

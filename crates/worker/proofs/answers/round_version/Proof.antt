@@ -8,6 +8,10 @@ use mir.ValLaws.{toZ-ofZ}
 use Rattle.versions.specs.Versions.{isReloaded, versionTable}
 use Rattle.versions.specs.declared.version.Version.{Version as Number}
 use Rattle.board.specs.Board.{Board, boardIn, withRecords}
+use Rattle.heads.specs.Link.{withVersion}
+use Rattle.heads.specs.Stats.{reloaded}
+use Rattle.heads.specs.declared.progress.After.the-variants.{Tail}
+use Rattle.heads.specs.declared.progress.Phase.the-variants.{MetaTold}
 use Rattle.engine.specs.Engine.{withLink, withStats}
 use Rattle.heads.specs.Link.{withVersion}
 use Rattle.heads.specs.Stats.{reloaded}

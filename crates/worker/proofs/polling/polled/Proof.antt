@@ -11,6 +11,8 @@ use Prim.Native.Nat.{ℕ}
 use lib.Ieee.{Float}
 use lib.ListN.{length}
 use Rattle.lent.specs.Lent.{wroteAll}
+use Rattle.heads.specs.Progress.{withRound}
+use Rattle.heads.specs.declared.progress.Phase.the-variants.{Read}
 use Rattle.engine.specs.Engine.{withCycle, withProgress}
 use Rattle.heads.specs.Progress.{withRound}
 use Rattle.engine.specs.declared.Engine.{Engine}

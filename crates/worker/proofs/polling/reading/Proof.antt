@@ -10,6 +10,8 @@ use Rattle.board.specs.Board.{Board, boardIn, describing}
 use Prim.Native.Nat.{ℕ}
 use lib.ListN.{length}
 use Rattle.lent.specs.Lent.{wroteAll}
+use Rattle.heads.specs.Stats.{readStats}
+use Rattle.heads.specs.declared.progress.Phase.the-variants.{Describe}
 use Rattle.engine.specs.Engine.{withStats}
 use Rattle.heads.specs.Stats.{readStats}
 use Rattle.engine.specs.declared.Engine.{Engine}

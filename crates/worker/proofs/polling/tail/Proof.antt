@@ -5,6 +5,7 @@ use lib.Ieee.{le}
 use mir.Val.{SFits}
 use mir.Syntax.{w64}
 use mir.Facts.{toZ-ofZ}
+use Rattle.heads.specs.Stats.{tailStats}
 use Rattle.engine.specs.Engine.{withStats}
 use Rattle.heads.specs.Stats.{tailStats}
 use Rattle.worker.specs.Worker.{worker, at}

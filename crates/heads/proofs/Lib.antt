@@ -1,0 +1,2 @@
+-- Laws of the head's parts.
+pub mod Laws

@@ -1,0 +1,3 @@
+pub mod Link
+pub mod Progress
+pub mod Stats
