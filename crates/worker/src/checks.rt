@@ -7,7 +7,7 @@ ghost use Rattle.board.specs.Board.{boardIn};
 ghost use Rattle.board.specs.Regions.{boardSize};
 ghost use Rattle.worker.specs.Worker.{at, worker};
 ghost use Rattle.worker.specs.Answers.{answer, awaited, isError, either, answersWrite, answers, contents, stepCheck};
-use board::polls::asked_count;
+use board::request::asked_count;
 use engine::Engine;
 use engine::progress::Phase;
 

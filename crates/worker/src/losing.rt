@@ -7,7 +7,6 @@ ghost use Rattle.worker.specs.Worker.{worker, saidIn, Done, Quietly};
 ghost use Rattle.worker.specs.Losing.{failing, ended, backingOff, disconnected, staling, down, top};
 use super::reply::Reply;
 use super::reply::Said;
-use board::polls::mark_stale;
 use board::queue::fail_writes;
 use board::queue::queued;
 use engine::Engine;
@@ -20,6 +19,7 @@ use engine::progress::with_phase;
 use engine::stats::more;
 use engine::with_link;
 use engine::with_progress;
+use polls::entries::mark_stale;
 
 // Something is asked or told, and the engine waits in the phase p.
 pub fn phased(e: Engine, p: Phase, r: Reply) -> Said

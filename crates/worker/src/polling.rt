@@ -9,10 +9,9 @@ use super::losing::ended;
 use super::losing::phased;
 use super::reply::Reply;
 use super::reply::Said;
-use board::polls::asked_count;
-use board::polls::put_asked;
 use board::queue::pop_write;
-use board::talks::ask_descriptions;
+use board::request::asked_count;
+use board::request::put_asked;
 use engine::Engine;
 use engine::progress::After;
 use engine::progress::Phase;
@@ -23,6 +22,7 @@ use engine::stats::tail_stats;
 use engine::with_cycle;
 use engine::with_progress;
 use engine::with_stats;
+use talks::ask_descriptions;
 use writes::queue::Popped;
 
 // Nothing is told yet: a round is to be worked out.
@@ -139,7 +139,7 @@ fn polled(board: &mut [u8], out: &mut [u8], e: Engine, clock: f64, wall: i64) ->
     requires { ⌜ length (now board) ≡ boardSize ⌝ }
     ensures { λ s. ⌜ Done (polled (worker e (boardIn (now (board .entry)))) (at clock wall) (roundAt (worker e (boardIn (now (board .entry)))) (at clock wall))) s (now (board .exit)) (now (out .entry)) (now (out .exit)) ⌝ }
 {
-    let w = board::polls::poll(board, e.options, e.cycle, clock);
+    let w = polls::round::poll(board, e.options, e.cycle, clock);
     let progress = with_round(e.progress, clock, w.tick, w.boundary);
     let cycled = with_cycle(e, w.cycle);
     let next = with_progress(cycled, progress);
