@@ -9,11 +9,7 @@ use Rattle.tiers.specs.Tiers.{Table, tabled}
 use Rattle.board.specs.Regions.{Regions, regionsIn, part, boardSize}
 use Rattle.board.specs.Board.{boardIn, boardOf, withTable}
 use Rattle.board.specs.Lending.{TableCall}
-use Rattle.board.proofs.Laws.{part-length, part-same, putOrder, putGraces, putTable, put-order, put-graces, put-table}
-
--- the table lent and given back
-pub table-back : (bs t : List ℕ) → length bs ≡ boardSize → length t ≡ length (part 7424 30720 bs) → part 7424 30720 (putMid 7424 30720 bs t) ≡ t
-table-back bs t h k = part-same 7424 30720 bs t (omega (arith, h)) (k ∙ part-length 7424 30720 bs (omega (arith, h)))
+use Rattle.board.proofs.Laws.{part-length, table-back, putOrder, putGraces, putTable, put-order, put-graces, put-table}
 
 -- the call on the table in its place; w is a copy of the words
 pub called-on : (f : Table → Table) (bs t order graces order' graces' w : List ℕ)

@@ -33,6 +33,20 @@ module _ (a k : ℕ) (xs ys : List ℕ) (h : a + k ≤ length xs) (e : length ys
       let from : (z : List ℕ) → drop b z ≡ drop (b - (a + k)) (drop (a + k) z) = λ z. ap (λ (n : ℕ). drop n z) (sym i) ∙ sym (drop-drop (b - (a + k)) (a + k) z) in
       ap (λ (z : List ℕ). take m z) (from (putMid a k xs ys) ∙ ap (λ (z : List ℕ). drop (b - (a + k)) z) end ∙ sym (from xs))
 
+-- ---- parts of a whole board
+
+-- a part has its width
+pub part-long : (a k : ℕ) (bs : List ℕ) → length bs ≡ boardSize → a + k ≤ boardSize → length (part a k bs) ≡ k
+part-long a k bs h g = part-length a k bs (omega (arith, h, g))
+
+-- a part put keeps the board's length
+pub put-long : (a k : ℕ) (bs y : List ℕ) → length bs ≡ boardSize → a + k ≤ boardSize → length y ≡ k → length (putMid a k bs y) ≡ boardSize
+put-long a k bs y h g e = same-len-mid a k bs y (e ∙ sym (part-long a k bs h g)) ∙ h
+
+-- the table lent and given back
+pub table-back : (bs t : List ℕ) → length bs ≡ boardSize → length t ≡ length (part 7424 30720 bs) → part 7424 30720 (putMid 7424 30720 bs t) ≡ t
+table-back bs t h k = part-same 7424 30720 bs t (omega (arith, h)) (k ∙ part-long 7424 30720 bs h (omega arith))
+
 -- ---- the parts with one of them replaced
 
 abbrev pub putBack : Regions → List ℕ → Regions

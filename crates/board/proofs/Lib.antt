@@ -1,6 +1,5 @@
 -- Laws of the board's parts.
 pub mod Laws
+pub mod PartLaws
 pub mod CallLaws
 pub mod CreationLaws
-pub mod PollLaws
-pub mod TalkLaws

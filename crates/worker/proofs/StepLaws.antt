@@ -24,7 +24,7 @@ use Rattle.heads.specs.declared.progress.Phase.{Phase}
 use Rattle.heads.specs.declared.progress.Phase.the-variants.{Begin, Connect, OpenVersion, Version, Read, Describe, Write, ReadBack, Wait, Backoff, OpenFailedTold, OpenMetaTold, ConnectedTold, MetaTold, ValuesTold, InfoTold, RefusedTold, LostTold, OutcomeTold, BackTold, FailedTold, StaleTold, DisconnectedTold, ConnectingTold, Stopped}
 use Rattle.board.specs.Board.{boardIn, boardOf, withAsked, keptBack, describing, appliedTo, staledIn, changesIn}
 use Rattle.board.specs.Regions.{boardSize, regionsIn, part}
-use Rattle.board.proofs.PollLaws.{part-long}
+use Rattle.board.proofs.Laws.{part-long}
 use Rattle.worker.specs.Reply as reply
 use Rattle.worker.specs.Worker.{Worker, At, Told, tell, asks, withBoard, phased, linked, stated, tallied, goesOn}
 use Rattle.worker.specs.Losing.{isEmpty, failing, ended, backingOff, disconnected, staling, down, top}

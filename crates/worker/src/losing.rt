@@ -27,6 +27,7 @@ use heads::link::with_state;
 use heads::progress::Phase;
 use heads::progress::with_phase;
 use heads::stats::more;
+use polls::entries::mark_stale;
 
 // Something is asked or told, and the engine waits in the phase p.
 pub fn phased(e: Engine, p: Phase, r: Reply) -> Said

@@ -13,6 +13,8 @@ use board::request::asked_count;
 use board::request::put_asked;
 use board::queue::pop_write;
 use talks::ask_descriptions;
+use board::request::asked_count;
+use board::request::put_asked;
 use engine::Engine;
 use heads::progress::After;
 use heads::progress::Phase;
@@ -29,6 +31,7 @@ use heads::progress::with_round;
 use heads::progress::with_writing;
 use heads::stats::read_stats;
 use heads::stats::tail_stats;
+use talks::ask_descriptions;
 use writes::queue::Popped;
 
 // Nothing is told yet: a round is to be worked out.

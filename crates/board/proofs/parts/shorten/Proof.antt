@@ -4,7 +4,7 @@ use native.Mathlib.Omega.{arith}
 use denote.Ref.{now}
 use lib.Seq.{take-all}
 use Rattle.tags.specs.Lists.{listIn}
-use Rattle.board.proofs.TalkLaws.{shortened}
+use Rattle.board.proofs.PartLaws.{shortened}
 use borrow.Author.Needs.{needs}
 use Rattle.board.proofs.parts.shorten.Statement.{statement}
 use Rattle.board.proofs.parts.shorten.Tie as tie

@@ -7,7 +7,7 @@ use lib.ListN.{length, replicate}
 use Rattle.tags.specs.Lists.{listIn}
 use Rattle.lent.specs.Lent.{wroteAll}
 use Rattle.board.specs.Board.{boardIn, queuedTags}
-use Rattle.board.proofs.TalkLaws.{queue-put, tags-queued}
+use Rattle.board.proofs.PartLaws.{queue-put, tags-queued}
 use borrow.Author.Needs.{needs}
 use Rattle.board.proofs.queue.fail_writes.Statement.{statement}
 use Rattle.board.proofs.queue.fail_writes.Tie as tie

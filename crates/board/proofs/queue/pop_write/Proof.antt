@@ -2,7 +2,7 @@
 use denote.Ref.{now}
 use Rattle.board.specs.Regions.{regionsIn}
 use Rattle.board.specs.Board.{boardIn, boardOf}
-use Rattle.board.proofs.TalkLaws.{queue-put}
+use Rattle.board.proofs.PartLaws.{queue-put}
 use borrow.Author.Needs.{needs}
 use Rattle.board.proofs.queue.pop_write.Statement.{statement}
 use Rattle.board.proofs.queue.pop_write.Tie as tie

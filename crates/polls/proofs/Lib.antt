@@ -1,0 +1,3 @@
+-- Laws of the board after rounds and readings.
+pub mod EntryLaws
+pub mod RoundLaws

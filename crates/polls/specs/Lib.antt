@@ -1,0 +1,2 @@
+-- What polling does to the board.
+pub mod Lending

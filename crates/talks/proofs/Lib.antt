@@ -1,0 +1,2 @@
+-- Laws of the board after what is asked beside the rounds.
+pub mod TalkLaws
