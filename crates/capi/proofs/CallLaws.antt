@@ -20,13 +20,13 @@ use Rattle.engine.specs.declared.link.State.the-variants.{Connected}
 use Rattle.lent.specs.Lent.{wroteAll}
 use Rattle.board.specs.Regions.{part, boardSize}
 use Rattle.board.specs.Board.{Board}
-use Rattle.worker.specs.Reply as reply
-use Rattle.worker.specs.Worker.{Worker, Told, At, worker, tell}
+use Rattle.replies.specs.Reply as reply
+use Rattle.replies.specs.Worker.{Worker, Told, At, worker, tell}
+use Rattle.replies.specs.Losing.{isEmpty}
+use Rattle.replies.specs.declared.reply.Reply.{Reply}
+use Rattle.replies.specs.declared.reply.Said.{Said}
 use Rattle.worker.specs.Answers.{Answer, stepCheck, stepped, step, Stepped as StepDone}
 use Rattle.worker.proofs.StepLaws.{stepped-plain}
-use Rattle.worker.specs.Losing.{isEmpty}
-use Rattle.worker.specs.declared.reply.Reply.{Reply}
-use Rattle.worker.specs.declared.reply.Said.{Said}
 use Rattle.capi.specs.Creation.{Setup, creationCheck}
 use Rattle.capi.specs.Memory.{memorySize, notAnEngine, workerIn, Called}
 use Rattle.capi.proofs.Laws.{board-put}

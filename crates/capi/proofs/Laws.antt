@@ -11,7 +11,7 @@ use Rattle.engine.specs.declared.Engine.{Engine}
 use Rattle.board.specs.Regions.{part, boardSize}
 use Rattle.board.specs.Board.{Board, boardIn}
 use Rattle.board.proofs.Laws.{part-length, part-same, part-before, part-after}
-use Rattle.worker.specs.Worker.{Worker, worker}
+use Rattle.replies.specs.Worker.{Worker, worker}
 use Rattle.capi.specs.Memory.{memorySize, workerIn}
 
 pub board-put : (bs y : List ℕ) → length bs ≡ memorySize → length y ≡ length (part 256 boardSize bs) → workerIn (putMid 256 38144 bs y) ≡ worker (workerIn bs .head) (boardIn y)

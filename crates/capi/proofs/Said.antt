@@ -11,10 +11,10 @@ use lib.ListN.{length}
 use Rattle.words.specs.Value.{valueFrom}
 use Rattle.lent.specs.Lent.{wroteAll, records}
 use Rattle.board.specs.Board.{rowCells}
-use Rattle.worker.specs.Worker.{Worker, at, Told}
+use Rattle.replies.specs.Worker.{Worker, at, Told}
+use Rattle.replies.specs.Reply as reply
+use Rattle.replies.specs.declared.reply.Reply.{Reply}
 use Rattle.worker.specs.Answers.{step}
-use Rattle.worker.specs.Reply as reply
-use Rattle.worker.specs.declared.reply.Reply.{Reply}
 use Rattle.shown.specs.Looks.{listed, leftIn, panelLeft}
 use Rattle.shown.specs.declared.head.StateLook.{StateLook}
 use Rattle.shown.specs.declared.head.StatsLook.{StatsLook}

@@ -18,12 +18,12 @@ use Rattle.engine.specs.Link.{isState, stopped}
 use Rattle.engine.specs.declared.link.State.the-variants.{Connected}
 use Rattle.lent.specs.Lent.{wroteAll}
 use Rattle.board.specs.Board.{withTable, withQueue}
-use Rattle.worker.specs.Reply as reply
-use Rattle.worker.specs.Worker.{Worker, Told, worker, withBoard, linked}
-use Rattle.worker.specs.Losing.{isEmpty}
+use Rattle.replies.specs.Reply as reply
+use Rattle.replies.specs.Worker.{Worker, Told, worker, withBoard, linked}
+use Rattle.replies.specs.Losing.{isEmpty}
+use Rattle.replies.specs.declared.reply.Reply.{Reply}
+use Rattle.replies.specs.declared.reply.Said.{Said}
 use Rattle.worker.specs.Answers.{Answer}
-use Rattle.worker.specs.declared.reply.Reply.{Reply}
-use Rattle.worker.specs.declared.reply.Said.{Said}
 use Rattle.capi.specs.Memory.{memorySize, notAnEngine, workerIn}
 
 -- Checks 21 and 22: a clock reading; 0 where it is accepted

@@ -10,7 +10,7 @@ use Rattle.settings.specs.Settings.{settingsOk}
 use Rattle.settings.specs.Configured.{configuredOk}
 use Rattle.engine.specs.Engine.{freshEngine}
 use Rattle.board.specs.Creation.{freshBoard}
-use Rattle.worker.specs.Worker.{Worker, worker}
+use Rattle.replies.specs.Worker.{Worker, worker}
 use Rattle.capi.specs.Calls.{first}
 
 -- What creation is given: the names with their end places, the options, the settings and the configured groups.

@@ -4,7 +4,7 @@ use mathlib.Core.List.{List}
 use Prim.Native.Nat.{ℕ, _/_}
 use lib.Dec.{eqb}
 use lib.ListN.{length}
-use Rattle.worker.specs.Worker.{Worker}
+use Rattle.replies.specs.Worker.{Worker}
 use Rattle.shown.specs.Looks as shown
 use Rattle.shown.specs.Looks.{stateOf, noState, statsOf, noStats, countsOf, noCounts, shortOf, noLook, tagFound}
 use Rattle.shown.specs.declared.head.StateLook.{StateLook}

@@ -6,7 +6,7 @@ use lib.ListN.{length}
 use Rattle.engine.specs.Engine.{engineIn}
 use Rattle.board.specs.Regions.{part, boardSize}
 use Rattle.board.specs.Board.{boardIn}
-use Rattle.worker.specs.Worker.{Worker, worker}
+use Rattle.replies.specs.Worker.{Worker, worker}
 
 -- the head is one row, and the board stands behind it
 abbrev pub memorySize : ℕ

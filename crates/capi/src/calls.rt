@@ -2,7 +2,7 @@
 ghost use mathlib.Core.Path.{_≡_};
 ghost use lib.ListN.{length};
 ghost use Rattle.words.specs.Value.{valueFrom};
-ghost use Rattle.worker.specs.Worker.{at};
+ghost use Rattle.replies.specs.Worker.{at};
 ghost use Rattle.worker.specs.Answers.{step};
 ghost use Rattle.capi.specs.Memory.{workerIn, Called};
 ghost use Rattle.capi.specs.Calls.{tierCheck, tiered, loadCheck, loaded, writeCheck, wrote, halted, answerOf, Stepped};
@@ -19,9 +19,9 @@ use super::whole::put_head;
 use super::whole::set_tier;
 use engine::link::stopped;
 use engine::with_link;
+use replies::reply::Reply;
 use words::value::value_from;
 use worker::checks::Answer;
-use worker::reply::Reply;
 use writes::queue::Write;
 
 // A tier call.

@@ -2,7 +2,7 @@
 ghost use mathlib.Core.Path.{_≡_};
 ghost use lib.ListN.{length};
 ghost use Rattle.board.specs.Board.{Board};
-ghost use Rattle.worker.specs.Worker.{worker};
+ghost use Rattle.replies.specs.Worker.{worker};
 ghost use Rattle.capi.specs.Memory.{memorySize, workerIn};
 ghost use Rattle.capi.specs.Calls.{clockCheck, tierCheck, loadCheck, writeCheck};
 use super::whole::head_of;

@@ -7,15 +7,15 @@ ghost use Rattle.panel.specs.Panel.{loadedList};
 ghost use Rattle.writes.specs.Queue.{queuedWith};
 ghost use Rattle.board.specs.Board.{withTable, withQueue};
 ghost use Rattle.board.specs.Creation.{freshBoard};
-ghost use Rattle.worker.specs.Worker.{worker, withBoard, at};
+ghost use Rattle.replies.specs.Worker.{worker, withBoard, at};
 ghost use Rattle.worker.specs.Answers.{step, answer};
 ghost use Rattle.capi.specs.Memory.{memorySize, workerIn};
 ghost use Rattle.capi.specs.Calls.{SteppedBoard};
 use engine::Engine;
 use engine::load;
 use engine::store;
+use replies::reply::Said;
 use worker::checks::Answer;
-use worker::reply::Said;
 use writes::queue::Write;
 
 // How many bytes an engine has, and the answer to memory of another length.

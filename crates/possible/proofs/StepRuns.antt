@@ -43,10 +43,10 @@ use denote.Triple.Spec.{Spec, tripleOf, Meets, exits}
 use Rattle.possible.proofs.RunLaws.{has-result, with-emp, lent-mut, lent-shr, behind, run-apart, taken-back, good-left}
 use Rattle.capi.specs.Memory.{workerIn}
 use lib.Signed.{mag}
-use Rattle.worker.specs.Worker.{at}
+use Rattle.replies.specs.Worker.{at}
+use Rattle.replies.specs.declared.reply.Reply.{Reply}
+use Rattle.replies.proofs.reply.Reply as reply
 use Rattle.worker.specs.Answers.{step}
-use Rattle.worker.specs.declared.reply.Reply.{Reply}
-use Rattle.worker.proofs.reply.Reply as reply
 use Rattle.capi.specs.Calls.{answerOf, Stepped}
 use Rattle.capi.proofs.calls.wz_step.Met as step-theorem
 

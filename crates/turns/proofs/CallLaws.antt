@@ -35,7 +35,7 @@ use Rattle.histories.specs.Events.{quiet, retiered, Each}
 use Rattle.histories.specs.Histories.{atEach}
 use Rattle.histories.specs.Respects.{Respects}
 use Rattle.board.specs.Creation.{freshBoard, freshWords, tagRoom}
-use Rattle.worker.specs.Worker.{Worker, at}
+use Rattle.replies.specs.Worker.{Worker, at}
 use Rattle.capi.specs.Calls.{clockCheck, noTag, first, tierCheck, tiered, loadCheck, writeCheck, wrote, halted, answerOf}
 use Rattle.capi.specs.Calls as calls
 use Rattle.capi.specs.Creation.{Setup, creationCheck, freshWorker}

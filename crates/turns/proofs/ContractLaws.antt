@@ -7,7 +7,7 @@ use lib.Dec.{eqb}
 use lib.ListN.{length}
 use borrow.Author.Tests.{eqb-true, eqb-false, eq-eqb}
 use Rattle.words.specs.Value.{valueFrom}
-use Rattle.worker.specs.Worker.{Worker}
+use Rattle.replies.specs.Worker.{Worker}
 use Rattle.capi.specs.Memory.{memorySize, workerIn, Called}
 use Rattle.capi.specs.Calls.{tierCheck, tiered, loadCheck, loaded, writeCheck, wrote, halted}
 use Rattle.capi.specs.Looks.{isEngine, stateLook, statsLook, countsLook, tagLook}

@@ -25,8 +25,8 @@ use Rattle.turns.proofs.TierLaws.{tiers, set-kept, tierOf, placeOf, pla
 use Rattle.turns.proofs.TickLaws.{Rated}
 use Rattle.turns.proofs.RateLaws.{rated-same}
 use Rattle.board.specs.Board.{withRecords}
-use Rattle.worker.specs.Worker.{Worker, Told, tell}
-use Rattle.worker.specs.declared.reply.Reply.{Reply}
+use Rattle.replies.specs.Worker.{Worker, Told, tell}
+use Rattle.replies.specs.declared.reply.Reply.{Reply}
 
 -- Options, directory, last boundary and slice index, clock, sort keys, rooms, order, graces, and the tier of each tag are the same in B as in A; and rates stay at
 -- 1 ms or more.

@@ -15,8 +15,8 @@ use Rattle.rounds.specs.Round.{Round}
 use Rattle.rounds.specs.Slice.{tier2Tags}
 use Rattle.rounds.specs.declared.tick.Options.{Options}
 use Rattle.board.specs.Creation.{noNumbers}
-use Rattle.worker.specs.Worker.{Worker, At, Told, at}
-use Rattle.worker.specs.Polling.{roundAt}
+use Rattle.replies.specs.Worker.{Worker, At, Told, at}
+use Rattle.cycles.specs.Polling.{roundAt}
 use Rattle.worker.specs.Answers.{Answer, clocked, stepped, step}
 use Rattle.capi.specs.Calls.{answerOf}
 use Rattle.capi.specs.Creation.{Setup}

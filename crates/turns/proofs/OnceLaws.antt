@@ -23,10 +23,10 @@ use Rattle.engine.specs.declared.progress.Phase.the-variants.{Read, Version}
 use Rattle.engine.specs.declared.progress.After.{After}
 use Rattle.engine.specs.declared.progress.After.the-variants.{Tail, End}
 use Rattle.board.specs.Board.{describing}
-use Rattle.worker.specs.Worker.{Worker, At, at, Told, tell, asks, withBoard, phased, tallied, goesOn}
-use Rattle.worker.specs.Reply as reply
-use Rattle.worker.specs.Losing.{isEmpty}
-use Rattle.worker.specs.Polling.{elapsed, idle, tail, resume, writingOf, writing, checking, reading, roundAt, withWorked, polled, poll, lastly, finished}
+use Rattle.replies.specs.Worker.{Worker, At, at, Told, tell, asks, withBoard, phased, tallied, goesOn}
+use Rattle.replies.specs.Reply as reply
+use Rattle.replies.specs.Losing.{isEmpty}
+use Rattle.cycles.specs.Polling.{elapsed, idle, tail, resume, writingOf, writing, checking, reading, roundAt, withWorked, polled, poll, lastly, finished}
 use Rattle.worker.specs.Answers.{Answer, contents, clocked, stepped}
 use Rattle.names.specs.Directory.{namesOf}
 use Rattle.rounds.specs.declared.tick.Options.{Options}

@@ -9,9 +9,9 @@ use lib.ListN.{length}
 use Rattle.words.specs.Value.{valueFrom}
 use Rattle.lent.specs.Lent.{records}
 use Rattle.board.specs.Board.{rowCells}
-use Rattle.worker.specs.Worker.{at}
+use Rattle.replies.specs.Worker.{at}
+use Rattle.replies.specs.declared.reply.Reply.{Reply}
 use Rattle.worker.specs.Answers.{step}
-use Rattle.worker.specs.declared.reply.Reply.{Reply}
 use Rattle.shown.specs.Looks.{listed, leftIn, panelLeft}
 use Rattle.shown.specs.declared.head.StateLook.{StateLook}
 use Rattle.shown.specs.declared.head.StatsLook.{StatsLook}

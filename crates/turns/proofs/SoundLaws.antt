@@ -28,9 +28,9 @@ use Rattle.histories.specs.Events.{Event, quiet, retiered, took}
 use Rattle.histories.specs.Respects.{Respects}
 use Rattle.board.specs.Board.{pollingOf}
 use Rattle.board.specs.Creation.{noNumbers}
-use Rattle.worker.specs.Worker.{Worker, At, Told}
-use Rattle.worker.specs.Losing.{isEmpty}
-use Rattle.worker.specs.Polling.{roundAt, withWorked}
+use Rattle.replies.specs.Worker.{Worker, At, Told}
+use Rattle.replies.specs.Losing.{isEmpty}
+use Rattle.cycles.specs.Polling.{roundAt, withWorked}
 use Rattle.worker.specs.Answers.{Answer, clocked, stepped, step}
 use Rattle.turns.specs.Demand.{ofRound}
 use Rattle.turns.proofs.InsideLaws.{Inside}

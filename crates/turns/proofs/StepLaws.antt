@@ -12,10 +12,10 @@ use borrow.Author.Tests.{eqb-true}
 use Rattle.ieee.specs.Times.{clockOk}
 use Rattle.engine.specs.declared.progress.After.the-variants.{End}
 use Rattle.engine.specs.declared.progress.Phase.the-variants.{Read}
-use Rattle.worker.specs.Reply as reply
-use Rattle.worker.specs.Worker.{Worker, At, Told, tell, phased, goesOn}
-use Rattle.worker.specs.Losing.{isEmpty}
-use Rattle.worker.specs.Polling.{waiting, reading, roundAt, withWorked, polled, poll, lastly, finished}
+use Rattle.replies.specs.Reply as reply
+use Rattle.replies.specs.Worker.{Worker, At, Told, tell, phased, goesOn}
+use Rattle.replies.specs.Losing.{isEmpty}
+use Rattle.cycles.specs.Polling.{waiting, reading, roundAt, withWorked, polled, poll, lastly, finished}
 use Rattle.worker.specs.Answers.{Answer, awaited, answers, contents, stepCheck, clocked, stepped, step}
 use Rattle.turns.proofs.KeepLaws.{Keeps, keeps-all, keeps-after, Still, still-tell, still-if}
 use Rattle.turns.proofs.StillLaws.{keeps-refl, still-writing, still-waiting, still-reading, still-handled}

@@ -1,4 +1,4 @@
--- Every part of a step but the round keeps the tiers, the order and the slice index. `still-X` says it of the definition X of `worker`: what X tells leaves an
+-- Every part of a step but the round keeps the tiers, the order and the slice index. `still-X` says it of the definition X of `replies`, `cycles` or `worker`: what X tells leaves an
 -- engine that keeps all that `Keeps` names, and is no round.
 use mathlib.Core.Path.{_≡_, refl}
 use mathlib.Core.Bool.{Bool, true, false, cond}
@@ -28,11 +28,11 @@ use Rattle.engine.specs.declared.progress.Phase.{Phase}
 use Rattle.engine.specs.declared.progress.Phase.the-variants.{Begin, Connect, OpenVersion, Version, Read, Describe, Write, ReadBack, Wait, Backoff, OpenFailedTold, OpenMetaTold, ConnectedTold, MetaTold, ValuesTold, InfoTold, RefusedTold, LostTold, OutcomeTold, BackTold, FailedTold, StaleTold, DisconnectedTold, ConnectingTold, Stopped}
 use Rattle.turns.proofs.TierLaws.{places, placeOf, map-kept}
 use Rattle.board.specs.Board.{withRecords, staledIn, appliedTo, describing}
-use Rattle.worker.specs.Reply as reply
-use Rattle.worker.specs.declared.reply.Reply.{Reply}
-use Rattle.worker.specs.Worker.{Worker, At, tell, asks, withBoard, phased, linked, tallied}
-use Rattle.worker.specs.Losing.{isEmpty, failing, ended, backingOff, disconnected, staling, down, top}
-use Rattle.worker.specs.Polling.{elapsed, remaining, polls, waiting, idle, tail, resume, writingOf, writing, checking, reading}
+use Rattle.replies.specs.Reply as reply
+use Rattle.replies.specs.declared.reply.Reply.{Reply}
+use Rattle.replies.specs.Worker.{Worker, At, tell, asks, withBoard, phased, linked, tallied}
+use Rattle.replies.specs.Losing.{isEmpty, failing, ended, backingOff, disconnected, staling, down, top}
+use Rattle.cycles.specs.Polling.{elapsed, remaining, polls, waiting, idle, tail, resume, writingOf, writing, checking, reading}
 use Rattle.worker.specs.Answers.{Answer, awaited, either, answers, contents, numberOf, versioned, connected, reconnecting, opened, openVersion, roundVersion, results, descriptions, written, readBack, backApplied, waited, backedOff, connectAnswered, taken, handled}
 use Rattle.turns.proofs.RateLaws.{rated-version}
 use Rattle.turns.proofs.KeepLaws.{Keeps, keeps-all, keeps-tags, keeps-records, keeps-after, Still, still-tell, still-if, still-after, apply-places, known-places, version-tiers}

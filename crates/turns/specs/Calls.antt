@@ -10,9 +10,9 @@ use Rattle.words.specs.Value.{valueFrom}
 use Rattle.tiers.specs.Tiers.{tagAt}
 use Rattle.lent.specs.Lent.{records, wroteAll}
 use Rattle.board.specs.Board.{rowCells}
-use Rattle.worker.specs.Worker.{Worker, Told, at}
+use Rattle.replies.specs.Worker.{Worker, Told, at}
+use Rattle.replies.specs.declared.reply.Reply.{Reply}
 use Rattle.worker.specs.Answers.{step}
-use Rattle.worker.specs.declared.reply.Reply.{Reply}
 use Rattle.shown.specs.Looks.{stateOf, statsOf, countsOf, listed, leftIn, panelLeft, tagOf, noLook}
 use Rattle.shown.specs.declared.head.StateLook.{StateLook}
 use Rattle.shown.specs.declared.head.StatsLook.{StatsLook}

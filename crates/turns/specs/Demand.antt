@@ -18,8 +18,8 @@ use Rattle.rounds.specs.Round.{Round}
 use Rattle.rounds.specs.Slice.{isTier2}
 use Rattle.histories.specs.Events.{Event, quiet, retiered, took, Each, EveryTurnOfRounds}
 use Rattle.histories.specs.Histories.{Did, calls, answered, engines, Ready, Happened, atEach, answers, trace, states}
-use Rattle.worker.specs.Worker.{Worker}
-use Rattle.worker.specs.Losing.{isEmpty}
+use Rattle.replies.specs.Worker.{Worker}
+use Rattle.replies.specs.Losing.{isEmpty}
 use Rattle.capi.specs.Memory.{workerIn}
 use Rattle.capi.specs.Calls.{tierCheck, loadCheck}
 use Rattle.capi.specs.Creation.{Setup, freshWorker}

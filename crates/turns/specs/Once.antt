@@ -1,9 +1,9 @@
--- Rule 9: a step needs no second round at its clock reading. (The definition of a step says what would be done if one were needed: `lastly` in worker's `Polling`.)
+-- Rule 9: a step needs no second round at its clock reading. (The definition of a step says what would be done if one were needed: `lastly` in `Polling` of `cycles`.)
 use mathlib.Core.Path.{_≡_}
 use mathlib.Core.Bool.{cond}
 use lib.ListN.{length}
-use Rattle.worker.specs.Worker.{Worker, At, Told, at, goesOn}
-use Rattle.worker.specs.Polling.{poll}
+use Rattle.replies.specs.Worker.{Worker, At, Told, at, goesOn}
+use Rattle.cycles.specs.Polling.{poll}
 use Rattle.worker.specs.Answers.{Answer, stepCheck, handled, clocked, stepped}
 use Rattle.capi.specs.Calls.{answerOf}
 use Rattle.turns.specs.Calls.{Call, tier, load, steps, write, stop, lookState, lookStats, lookCounts, lookGroups, lookTable, lookPanel, lookTag}

@@ -1,4 +1,4 @@
--- A step comes to the same with more room. `alike-X` says it of the definition X of `worker`: X tells the same, and leaves the same engine but for the rooms.
+-- A step comes to the same with more room. `alike-X` says it of the definition X of `replies`, `cycles` or `worker`: X tells the same, and leaves the same engine but for the rooms.
 use mathlib.Core.Path.{_≡_, refl, ap, _∙_}
 use mathlib.Core.Bool.{Bool, true, false, cond}
 use mathlib.Core.List.{List, [], _∷_, _++_, map}
@@ -45,11 +45,11 @@ use Rattle.engine.specs.declared.progress.After.the-variants.{Tail, Idle, End}
 use Rattle.engine.specs.declared.progress.Phase.{Phase}
 use Rattle.engine.specs.declared.progress.Phase.the-variants.{Begin, Connect, OpenVersion, Version as AskVersion, Read, Describe, Write as AskWrite, ReadBack, Wait, Backoff, OpenFailedTold, OpenMetaTold, ConnectedTold, MetaTold, ValuesTold, InfoTold, RefusedTold, LostTold, OutcomeTold, BackTold, FailedTold, StaleTold, DisconnectedTold, ConnectingTold, Stopped}
 use Rattle.board.specs.Board.{Board, withRecords, withQueue, withAsked, keptBack, staledIn, appliedTo, describing, queuedTags, pollingOf}
-use Rattle.worker.specs.Reply as reply
-use Rattle.worker.specs.declared.reply.Reply.{Reply}
-use Rattle.worker.specs.Worker.{Worker, At, Told, tell, asks, withBoard, phased, linked, stated, tallied, goesOn}
-use Rattle.worker.specs.Losing.{isEmpty, withoutWrites, failing, ended, backingOff, disconnected, staling, down, top}
-use Rattle.worker.specs.Polling.{elapsed, remaining, polls, waiting, idle, tail, resume, writingOf, writing, checking, reading, roundAt, withWorked, worked, polled, poll, lastly, finished}
+use Rattle.replies.specs.Reply as reply
+use Rattle.replies.specs.declared.reply.Reply.{Reply}
+use Rattle.replies.specs.Worker.{Worker, At, Told, tell, asks, withBoard, phased, linked, stated, tallied, goesOn}
+use Rattle.replies.specs.Losing.{isEmpty, withoutWrites, failing, ended, backingOff, disconnected, staling, down, top}
+use Rattle.cycles.specs.Polling.{elapsed, remaining, polls, waiting, idle, tail, resume, writingOf, writing, checking, reading, roundAt, withWorked, worked, polled, poll, lastly, finished}
 use Rattle.worker.specs.Answers.{Answer, awaited, either, answers, contents, numberOf, versioned, connected, reconnecting, opened, openVersion, roundVersion, results, descriptions, written, readBack, backApplied, waited, backedOff, connectAnswered, taken, handled}
 use Rattle.capi.specs.Calls.{maxWrites}
 use Rattle.uncut.specs.Uncut.{boardRoomed, roomed}

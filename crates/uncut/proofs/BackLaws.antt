@@ -1,5 +1,5 @@
 -- The results of a read-back are kept whole. An engine that waits for them has asked for two tags at most, and the bytes that keep them hold eight.
--- `apart-X` says of the definition X of `worker` that it leaves no engine that waits for a read-back, and as many bytes.
+-- `apart-X` says of the definition X of `replies`, `cycles` or `worker` that it leaves no engine that waits for a read-back, and as many bytes.
 use mathlib.Core.Path.{_≡_, refl, ap, sym, _∙_}
 use mathlib.Core.Bool.{Bool, true, false, cond, true≢false}
 use mathlib.Core.List.{List, [], _∷_}
@@ -32,10 +32,10 @@ use Rattle.engine.specs.declared.progress.Phase.{Phase}
 use Rattle.engine.specs.declared.progress.Phase.the-variants.{Begin, Connect, OpenVersion, Version, Read, Describe, Write, ReadBack, Wait, Backoff, OpenFailedTold, OpenMetaTold, ConnectedTold, MetaTold, ValuesTold, InfoTold, RefusedTold, LostTold, OutcomeTold, BackTold, FailedTold, StaleTold, DisconnectedTold, ConnectingTold, Stopped}
 use Rattle.board.specs.Board.{staledIn, appliedTo, describing, keptBack}
 use Rattle.board.specs.Creation.{freshBoard}
-use Rattle.worker.specs.Reply as reply
-use Rattle.worker.specs.Worker.{Worker, At, at, Told, tell, asks, withBoard, phased, tallied, goesOn}
-use Rattle.worker.specs.Losing.{isEmpty, ended, backingOff, disconnected, staling, down, top}
-use Rattle.worker.specs.Polling.{elapsed, remaining, polls, idle, tail, resume, writingOf, writing, checking, reading, roundAt, withWorked, polled, poll, lastly, finished}
+use Rattle.replies.specs.Reply as reply
+use Rattle.replies.specs.Worker.{Worker, At, at, Told, tell, asks, withBoard, phased, tallied, goesOn}
+use Rattle.replies.specs.Losing.{isEmpty, ended, backingOff, disconnected, staling, down, top}
+use Rattle.cycles.specs.Polling.{elapsed, remaining, polls, idle, tail, resume, writingOf, writing, checking, reading, roundAt, withWorked, polled, poll, lastly, finished}
 use Rattle.worker.specs.Answers.{Answer, numberOf, versioned, connected, reconnecting, opened, openVersion, roundVersion, results, descriptions, written, readBack, backApplied, waited, backedOff, taken, handled, clocked, stepped, step}
 use Rattle.capi.specs.Calls.{tierCheck, tiered, loadCheck, loaded, writeCheck, wrote, answerOf}
 use Rattle.capi.specs.Creation.{Setup, freshWorker}

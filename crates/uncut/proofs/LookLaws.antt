@@ -21,7 +21,7 @@ use Rattle.statistics.proofs.NumberLaws.{firsts-few}
 use Rattle.settings.specs.Settings.{maxGroups}
 use Rattle.board.specs.Board.{factsOf, rowCells}
 use Rattle.board.specs.Creation.{listRoom, tagRoom}
-use Rattle.worker.specs.Worker.{Worker}
+use Rattle.replies.specs.Worker.{Worker}
 use Rattle.capi.specs.Looks.{groupCells, panelBytes}
 use Rattle.turns.specs.Calls.{Call, tier, load, steps, write, stop, lookState, lookStats, lookCounts, lookGroups, lookTable, lookPanel, lookTag, answer}
 use Rattle.turns.specs.Demand.{moment}

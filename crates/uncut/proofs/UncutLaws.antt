@@ -41,9 +41,9 @@ use Rattle.histories.specs.Events.{Each}
 use Rattle.histories.specs.Histories.{atEach, answers, states}
 use Rattle.board.specs.Board.{Board, withTable, pollingOf}
 use Rattle.board.specs.Creation.{freshBoard, freshWords, noNumbers, tagRoom, listRoom, configuredRoom}
-use Rattle.worker.specs.Worker.{Worker, At, Told, tell, at, goesOn}
-use Rattle.worker.specs.Polling.{waiting, writing, roundAt, polled, poll, lastly, finished}
-use Rattle.worker.specs.Reply as reply
+use Rattle.replies.specs.Worker.{Worker, At, Told, tell, at, goesOn}
+use Rattle.replies.specs.Reply as reply
+use Rattle.cycles.specs.Polling.{waiting, writing, roundAt, polled, poll, lastly, finished}
 use Rattle.worker.specs.Answers.{Answer, contents, stepCheck, clocked, stepped, step}
 use Rattle.capi.specs.Calls.{clockCheck, noTag, tierCheck, tiered, loadCheck, writeCheck, writeOf, wrote, maxWrites, answerOf}
 use Rattle.capi.specs.Calls as calls

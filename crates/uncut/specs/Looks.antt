@@ -10,7 +10,7 @@ use Rattle.statistics.specs.Stats.{groupsOf}
 use Rattle.histories.specs.Events.{Each}
 use Rattle.histories.specs.Histories.{atEach}
 use Rattle.board.specs.Board.{factsOf, rowCells}
-use Rattle.worker.specs.Worker.{Worker}
+use Rattle.replies.specs.Worker.{Worker}
 use Rattle.capi.specs.Creation.{Setup, creationCheck, freshWorker}
 use Rattle.capi.specs.Looks.{groupCells}
 use Rattle.turns.specs.Calls.{Call, tier, load, steps, write, stop, lookState, lookStats, lookCounts, lookGroups, lookTable, lookPanel, lookTag, Answer, listIs, answer, after}

@@ -18,8 +18,8 @@ use Rattle.histories.specs.Events.{Each}
 use Rattle.histories.specs.Histories.{atEach, answers, states}
 use Rattle.board.specs.Board.{Board, pollingOf}
 use Rattle.board.specs.Creation.{listRoom}
-use Rattle.worker.specs.Worker.{Worker, At, at, worker}
-use Rattle.worker.specs.Polling.{roundAt}
+use Rattle.replies.specs.Worker.{Worker, At, at, worker}
+use Rattle.cycles.specs.Polling.{roundAt}
 use Rattle.capi.specs.Calls.{answerOf}
 use Rattle.capi.specs.Creation.{Setup, creationCheck, freshWorker}
 use Rattle.turns.specs.Calls.{Call, tier, load, steps, write, stop, lookState, lookStats, lookCounts, lookGroups, lookTable, lookPanel, lookTag, toldBy, answer, after}

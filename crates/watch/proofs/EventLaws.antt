@@ -8,9 +8,9 @@ use Rattle.names.specs.Directory.{maxNames}
 use Rattle.table.specs.Tag.{freshTag}
 use Rattle.board.specs.Board.{boardOf, boardIn, changesIn}
 use Rattle.board.specs.Regions.{regionsIn}
-use Rattle.worker.specs.Worker.{Worker, tell}
-use Rattle.worker.specs.Reply.{values}
-use Rattle.worker.specs.declared.reply.Reply.{Reply}
+use Rattle.replies.specs.Worker.{Worker, tell}
+use Rattle.replies.specs.Reply.{values}
+use Rattle.replies.specs.declared.reply.Reply.{Reply}
 use Rattle.capi.specs.Memory.{memorySize, workerIn}
 use Rattle.capi.specs.Calls.{Stepped}
 use Rattle.changes.specs.Changes.{told, changeOf}

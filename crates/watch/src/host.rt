@@ -1,8 +1,8 @@
 // What the host answers: connecting succeeds, no version, no descriptions, and the readings of two rounds; the third
 // reading is lost, and so is every attempt to connect again.
 use memory::cells::put_cell;
+use replies::reply::Reply;
 use worker::checks::Answer;
-use worker::reply::Reply;
 
 const TAGS: usize = 4;
 

@@ -10,8 +10,8 @@ use capi::calls::wz_set_tier;
 use capi::calls::wz_step;
 use capi::creation::wz_create;
 use changes::Change;
+use replies::reply::Reply;
 use worker::checks::Answer;
-use worker::reply::Reply;
 
 // The bytes of an engine.
 const MEMORY: usize = 38400;

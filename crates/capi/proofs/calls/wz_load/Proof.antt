@@ -2,7 +2,7 @@
 use Rattle.capi.proofs.CallLaws.{alien-call, refused-call, done-call}
 use Rattle.capi.specs.Calls.{loadCheck}
 use Rattle.capi.specs.Memory.{workerIn}
-use Rattle.worker.specs.Worker.{Worker, worker}
+use Rattle.replies.specs.Worker.{Worker, worker}
 use Rattle.board.specs.Board.{withTable}
 use Rattle.engine.specs.declared.Engine.{Engine}
 use Rattle.engine.specs.Engine.{withClock}

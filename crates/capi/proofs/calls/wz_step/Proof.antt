@@ -2,10 +2,10 @@
 use Rattle.capi.proofs.CallLaws.{alien-step, refused-step, done-step}
 use Rattle.capi.specs.Calls.{answerOf, SteppedBoard}
 use Rattle.capi.specs.Memory.{workerIn}
+use Rattle.replies.specs.Worker.{Told, At, at, worker}
 use Rattle.worker.specs.Answers.{Answer, step}
-use Rattle.worker.specs.Worker.{Told, At, at, worker}
 use Rattle.engine.specs.declared.Engine.{Engine}
-use Rattle.worker.specs.declared.reply.Said.{Said}
+use Rattle.replies.specs.declared.reply.Said.{Said}
 use mathlib.Core.List.{List}
 use Prim.Native.Nat.{ℕ}
 use lib.ListN.{length}

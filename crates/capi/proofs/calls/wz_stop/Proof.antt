@@ -1,7 +1,7 @@
 -- `capi::calls::wz_stop` meets its contract.
 use Rattle.capi.proofs.CallLaws.{alien-call, done-call}
 use Rattle.capi.specs.Memory.{workerIn}
-use Rattle.worker.specs.Worker.{worker}
+use Rattle.replies.specs.Worker.{worker}
 use Rattle.engine.specs.declared.Engine.{Engine}
 use Rattle.engine.specs.declared.link.Link.{Link}
 use Rattle.engine.specs.Link.{stopped}

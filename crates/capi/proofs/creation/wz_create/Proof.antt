@@ -3,7 +3,7 @@ use Rattle.capi.proofs.CallLaws.{alien-call, refused-call, done-call, f
 use Rattle.capi.specs.Creation.{Setup, creationCheck, freshWorker}
 use Rattle.capi.specs.Memory.{workerIn}
 use Rattle.engine.specs.Engine.{freshEngine}
-use Rattle.worker.specs.Worker.{Worker, worker}
+use Rattle.replies.specs.Worker.{Worker, worker}
 use Rattle.engine.specs.declared.Engine.{Engine}
 use mathlib.Core.Path.{ap, ap₂, sym, _∙_}
 use denote.Ref.{now}

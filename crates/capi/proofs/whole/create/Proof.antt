@@ -2,7 +2,7 @@
 use borrow.Author.Needs.{needs}
 use mathlib.Core.Path.{ap, _∙_}
 use denote.Ref.{now}
-use Rattle.worker.specs.Worker.{Worker}
+use Rattle.replies.specs.Worker.{Worker}
 use Rattle.capi.specs.Memory.{workerIn}
 use Rattle.capi.proofs.Laws.{board-put}
 use Rattle.capi.proofs.whole.create.Statement.{statement}

@@ -3,7 +3,7 @@ use borrow.Author.Needs.{needs}
 use mathlib.Core.Path.{ap, _∙_}
 use denote.Ref.{now}
 use Rattle.board.specs.Board.{Board}
-use Rattle.worker.specs.Worker.{worker}
+use Rattle.replies.specs.Worker.{worker}
 use Rattle.capi.specs.Memory.{workerIn}
 use Rattle.capi.proofs.Laws.{board-put}
 use Rattle.capi.proofs.whole.set_tier.Statement.{statement}

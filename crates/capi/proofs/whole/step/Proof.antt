@@ -5,7 +5,7 @@ use mir.Val.{SFits}
 use mir.Syntax.{w64}
 use mir.Facts.{toZ-ofZ}
 use lib.ListN.{length}
-use Rattle.worker.specs.Worker.{At, at, worker}
+use Rattle.replies.specs.Worker.{At, at, worker}
 use Rattle.worker.specs.Answers.{answer, step}
 use Rattle.capi.specs.Memory.{workerIn}
 use Rattle.capi.proofs.CallLaws.{step-put}
