@@ -23,6 +23,9 @@ use Rattle.board.specs.Regions.{part, boardSize}
 use Rattle.board.specs.Board.{Board}
 use Rattle.replies.specs.Reply as reply
 use Rattle.replies.specs.Worker.{Worker, Told, At, worker, tell}
+use Rattle.replies.specs.Losing.{isEmpty}
+use Rattle.replies.specs.declared.reply.Reply.{Reply}
+use Rattle.replies.specs.declared.reply.Said.{Said}
 use Rattle.worker.specs.Answers.{Answer, stepCheck, stepped, step, Stepped as StepDone}
 use Rattle.worker.proofs.StepLaws.{stepped-plain}
 use Rattle.replies.specs.Losing.{isEmpty}

@@ -12,6 +12,8 @@ use Rattle.words.specs.Value.{valueFrom}
 use Rattle.lent.specs.Lent.{wroteAll, records}
 use Rattle.board.specs.Board.{rowCells}
 use Rattle.replies.specs.Worker.{Worker, at, Told}
+use Rattle.replies.specs.Reply as reply
+use Rattle.replies.specs.declared.reply.Reply.{Reply}
 use Rattle.worker.specs.Answers.{step}
 use Rattle.replies.specs.Reply as reply
 use Rattle.replies.specs.declared.reply.Reply.{Reply}

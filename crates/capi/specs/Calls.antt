@@ -23,6 +23,8 @@ use Rattle.board.specs.Board.{withTable, withQueue}
 use Rattle.replies.specs.Reply as reply
 use Rattle.replies.specs.Worker.{Worker, Told, worker, withBoard, linked}
 use Rattle.replies.specs.Losing.{isEmpty}
+use Rattle.replies.specs.declared.reply.Reply.{Reply}
+use Rattle.replies.specs.declared.reply.Said.{Said}
 use Rattle.worker.specs.Answers.{Answer}
 use Rattle.replies.specs.declared.reply.Reply.{Reply}
 use Rattle.replies.specs.declared.reply.Said.{Said}

@@ -20,6 +20,7 @@ use super::whole::set_tier;
 use heads::link::stopped;
 use engine::with_link;
 use heads::link::stopped;
+use replies::reply::Reply;
 use words::value::value_from;
 use worker::checks::Answer;
 use replies::reply::Reply;

@@ -14,6 +14,7 @@ ghost use Rattle.capi.specs.Calls.{SteppedBoard};
 use engine::Engine;
 use engine::load;
 use engine::store;
+use replies::reply::Said;
 use worker::checks::Answer;
 use replies::reply::Said;
 use writes::queue::Write;

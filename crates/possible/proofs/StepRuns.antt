@@ -44,9 +44,10 @@ use Rattle.possible.proofs.RunLaws.{has-result, with-emp, lent-mut, len
 use Rattle.capi.specs.Memory.{workerIn}
 use lib.Signed.{mag}
 use Rattle.replies.specs.Worker.{at}
+use Rattle.replies.specs.declared.reply.Reply.{Reply}
+use Rattle.replies.proofs.reply.Reply as reply
 use Rattle.worker.specs.Answers.{step}
 use Rattle.replies.specs.declared.reply.Reply.{Reply}
-use Rattle.worker.proofs.reply.Reply as reply
 use Rattle.capi.specs.Calls.{answerOf, Stepped}
 use Rattle.capi.proofs.calls.wz_step.Met as step-theorem
 

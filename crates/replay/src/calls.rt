@@ -12,6 +12,7 @@ use frames::answer::no_answer;
 use frames::numbers::eight;
 use frames::numbers::four;
 use frames::parts::list_at;
+use replies::reply::Reply;
 use words::scalar::float_of_word;
 use words::scalar::int_of_word;
 use words::scalar::word_of_float;

@@ -10,6 +10,7 @@ use Rattle.words.specs.Value.{valueFrom}
 use Rattle.lent.specs.Lent.{records}
 use Rattle.board.specs.Board.{rowCells}
 use Rattle.replies.specs.Worker.{at}
+use Rattle.replies.specs.declared.reply.Reply.{Reply}
 use Rattle.worker.specs.Answers.{step}
 use Rattle.replies.specs.declared.reply.Reply.{Reply}
 use Rattle.shown.specs.Looks.{listed, leftIn, panelLeft}

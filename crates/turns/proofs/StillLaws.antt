@@ -1,4 +1,4 @@
--- Every part of a step but the round keeps the tiers, the order and the slice index. `still-X` says it of the definition X of `worker`: what X tells leaves an
+-- Every part of a step but the round keeps the tiers, the order and the slice index. `still-X` says it of the definition X of `replies`, `cycles` or `worker`: what X tells leaves an
 -- engine that keeps all that `Keeps` names, and is no round.
 use mathlib.Core.Path.{_≡_, refl}
 use mathlib.Core.Bool.{Bool, true, false, cond}

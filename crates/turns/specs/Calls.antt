@@ -11,6 +11,7 @@ use Rattle.tiers.specs.Tiers.{tagAt}
 use Rattle.lent.specs.Lent.{records, wroteAll}
 use Rattle.board.specs.Board.{rowCells}
 use Rattle.replies.specs.Worker.{Worker, Told, at}
+use Rattle.replies.specs.declared.reply.Reply.{Reply}
 use Rattle.worker.specs.Answers.{step}
 use Rattle.replies.specs.declared.reply.Reply.{Reply}
 use Rattle.shown.specs.Looks.{stateOf, statsOf, countsOf, listed, leftIn, panelLeft, tagOf, noLook}

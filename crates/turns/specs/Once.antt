@@ -1,4 +1,4 @@
--- Rule 9: a step needs no second round at its clock reading. (The definition of a step says what would be done if one were needed: `lastly` in worker's `Polling`.)
+-- Rule 9: a step needs no second round at its clock reading. (The definition of a step says what would be done if one were needed: `lastly` in `Polling` of `cycles`.)
 use mathlib.Core.Path.{_≡_}
 use mathlib.Core.Bool.{cond}
 use lib.ListN.{length}

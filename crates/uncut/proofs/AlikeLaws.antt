@@ -1,4 +1,4 @@
--- A step comes to the same with more room. `alike-X` says it of the definition X of `worker`: X tells the same, and leaves the same engine but for the rooms.
+-- A step comes to the same with more room. `alike-X` says it of the definition X of `replies`, `cycles` or `worker`: X tells the same, and leaves the same engine but for the rooms.
 use mathlib.Core.Path.{_≡_, refl, ap, _∙_}
 use mathlib.Core.Bool.{Bool, true, false, cond}
 use mathlib.Core.List.{List, [], _∷_, _++_, map}

@@ -1,5 +1,5 @@
 -- The results of a read-back are kept whole. An engine that waits for them has asked for two tags at most, and the bytes that keep them hold eight.
--- `apart-X` says of the definition X of `worker` that it leaves no engine that waits for a read-back, and as many bytes.
+-- `apart-X` says of the definition X of `replies`, `cycles` or `worker` that it leaves no engine that waits for a read-back, and as many bytes.
 use mathlib.Core.Path.{_≡_, refl, ap, sym, _∙_}
 use mathlib.Core.Bool.{Bool, true, false, cond, true≢false}
 use mathlib.Core.List.{List, [], _∷_}

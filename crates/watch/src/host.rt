@@ -1,6 +1,7 @@
 // What the host answers: connecting succeeds, no version, no descriptions, and the readings of two rounds; the third
 // reading is lost, and so is every attempt to connect again.
 use memory::cells::put_cell;
+use replies::reply::Reply;
 use worker::checks::Answer;
 use replies::reply::Reply;
 

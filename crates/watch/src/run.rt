@@ -10,6 +10,7 @@ use capi::calls::wz_set_tier;
 use capi::calls::wz_step;
 use capi::creation::wz_create;
 use changes::Change;
+use replies::reply::Reply;
 use worker::checks::Answer;
 use replies::reply::Reply;
 

@@ -10,11 +10,11 @@ use Rattle.board.specs.Board.{Board, boardIn, changesIn}
 use Rattle.heads.specs.declared.progress.Phase.{Phase}
 use Rattle.engine.specs.declared.Engine.{Engine}
 use Rattle.heads.specs.declared.progress.Phase.{Phase}
-use Rattle.worker.specs.declared.reply.Reply.{Reply}
-use Rattle.worker.specs.declared.reply.Said.{Said}
-use Rattle.worker.specs.Losing.{isEmpty}
-use Rattle.worker.specs.Worker.{Told, tell, asks, worker, phased, saidIn, Done}
-use Rattle.worker.proofs.DoneLaws.{wrote-nothing}
+use Rattle.replies.specs.declared.reply.Reply.{Reply}
+use Rattle.replies.specs.declared.reply.Said.{Said}
+use Rattle.replies.specs.Losing.{isEmpty}
+use Rattle.replies.specs.Worker.{Told, tell, asks, worker, phased, saidIn, Done}
+use Rattle.replies.proofs.DoneLaws.{wrote-nothing}
 
 -- no element and the length 0 are the same
 pub empty-is : {A : Type 0} → (l : List A) → eqb (length l) 0 ≡ isEmpty l

@@ -1,5 +1,3 @@
--- Laws of what was done, and of what an answer comes to.
-pub mod DoneLaws
+-- Laws of what an answer comes to, and of a step.
 pub mod AnswerLaws
-pub mod PollingLaws
 pub mod StepLaws

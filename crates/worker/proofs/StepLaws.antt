@@ -25,10 +25,10 @@ use Rattle.heads.specs.declared.progress.Phase.the-variants.{Begin, Connect, Op
 use Rattle.board.specs.Board.{boardIn, boardOf, withAsked, keptBack, describing, appliedTo, staledIn, changesIn}
 use Rattle.board.specs.Regions.{boardSize, regionsIn, part}
 use Rattle.board.proofs.Laws.{part-long}
-use Rattle.worker.specs.Reply as reply
-use Rattle.worker.specs.Worker.{Worker, At, Told, tell, asks, withBoard, phased, linked, stated, tallied, goesOn}
-use Rattle.worker.specs.Losing.{isEmpty, failing, ended, backingOff, disconnected, staling, down, top}
-use Rattle.worker.specs.Polling.{elapsed, remaining, polls, waiting, idle, tail, resume, writingOf, writing, checking, reading, roundAt, withWorked, worked, polled, poll, lastly, finished}
+use Rattle.replies.specs.Reply as reply
+use Rattle.replies.specs.Worker.{Worker, At, Told, tell, asks, withBoard, phased, linked, stated, tallied, goesOn}
+use Rattle.replies.specs.Losing.{isEmpty, failing, ended, backingOff, disconnected, staling, down, top}
+use Rattle.cycles.specs.Polling.{elapsed, remaining, polls, waiting, idle, tail, resume, writingOf, writing, checking, reading, roundAt, withWorked, worked, polled, poll, lastly, finished}
 use Rattle.worker.specs.Answers.{Answer, stepCheck, connected, reconnecting, opened, numberOf, versioned, openVersion, roundVersion, results, descriptions, written, readBack, backApplied, waited, backedOff, connectAnswered, taken, handled, clocked, stepped, step}
 
 -- the table's part is 30720 bytes, and a record takes 256

@@ -29,12 +29,12 @@ use Rattle.heads.specs.declared.progress.After.the-variants.{Tail, Idle, End}
 use Rattle.heads.specs.declared.progress.Phase.{Phase}
 use Rattle.heads.specs.declared.progress.Phase.the-variants.{Begin, Connect, OpenVersion, Version, Read, Describe, Write, ReadBack, Wait, Backoff, OpenFailedTold, OpenMetaTold, ConnectedTold, MetaTold, ValuesTold, InfoTold, RefusedTold, LostTold, OutcomeTold, BackTold, FailedTold, StaleTold, DisconnectedTold, ConnectingTold, Stopped}
 use Rattle.board.specs.Board.{Board, withRecords, withAsked, withBack, keptBack, Changed, appliedTo, changesIn}
+use Rattle.replies.specs.declared.reply.Said.{Said}
+use Rattle.replies.specs.Reply as reply
+use Rattle.replies.specs.Worker.{Worker, At, Told, Done, tell, asks, worker, withBoard, phased, linked, stated, tallied}
+use Rattle.replies.specs.Losing.{isEmpty, failing, ended, disconnected, backingOff, staling, down, top}
+use Rattle.cycles.specs.Polling.{polls, writing, checking, reading, finished}
 use Rattle.worker.specs.declared.checks.Answer.{Answer as Numbers}
-use Rattle.worker.specs.declared.reply.Said.{Said}
-use Rattle.worker.specs.Reply as reply
-use Rattle.worker.specs.Worker.{Worker, At, Told, Done, tell, asks, worker, withBoard, phased, linked, stated, tallied}
-use Rattle.worker.specs.Losing.{isEmpty, failing, ended, disconnected, backingOff, staling, down, top}
-use Rattle.worker.specs.Polling.{polls, writing, checking, reading, finished}
 
 -- An answer: its kind, a number (of a version, or of an error), the number of a message, and the bytes of a list of records.
 -- Kinds: 0 begin; 1 opened, 2 not opened; 3 version null, 4 version; 5 results, 6 lost; 7 written, 8 refused; 9 descriptions, 10 none read; 11 waited; 12 taken.

@@ -5,7 +5,7 @@ ghost use Prim.Native.Nat.{ℕ};
 ghost use lib.ListN.{length};
 ghost use Rattle.board.specs.Board.{boardIn};
 ghost use Rattle.board.specs.Regions.{boardSize};
-ghost use Rattle.worker.specs.Worker.{at, worker};
+ghost use Rattle.replies.specs.Worker.{at, worker};
 ghost use Rattle.worker.specs.Answers.{answer, awaited, isError, either, answersWrite, answers, contents, stepCheck};
 use board::request::asked_count;
 use engine::Engine;

@@ -2,6 +2,7 @@
 use Rattle.capi.proofs.CallLaws.{alien-step, refused-step, done-step}
 use Rattle.capi.specs.Calls.{answerOf, SteppedBoard}
 use Rattle.capi.specs.Memory.{workerIn}
+use Rattle.replies.specs.Worker.{Told, At, at, worker}
 use Rattle.worker.specs.Answers.{Answer, step}
 use Rattle.replies.specs.Worker.{Told, At, at, worker}
 use Rattle.engine.specs.declared.Engine.{Engine}

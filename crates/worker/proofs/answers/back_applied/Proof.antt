@@ -10,12 +10,12 @@ use mir.Syntax.{w64}
 use mir.ValLaws.{toZ-ofZ}
 use Rattle.board.specs.Board.{Board, boardIn, Changing, appliedTo, changesIn}
 use Rattle.heads.specs.declared.progress.Phase.the-variants.{BackTold}
-use Rattle.worker.specs.Reply as reply
-use Rattle.worker.specs.Worker.{worker, at, phased, saidIn, tell}
-use Rattle.worker.specs.Losing.{isEmpty}
-use Rattle.worker.specs.Polling.{writing}
+use Rattle.replies.specs.Reply as reply
+use Rattle.replies.specs.Worker.{worker, at, phased, saidIn, tell}
+use Rattle.replies.specs.Losing.{isEmpty}
+use Rattle.replies.proofs.DoneLaws.{done-is}
+use Rattle.cycles.specs.Polling.{writing}
 use Rattle.worker.specs.Answers.{backApplied}
-use Rattle.worker.proofs.DoneLaws.{done-is}
 use Rattle.worker.proofs.AnswerLaws.{empty-is, no-changes, done-from, told-done}
 use borrow.Author.Tests.{eq-eqb, ne-eqb}
 use borrow.Author.Needs.{needs}

@@ -3,10 +3,10 @@ use mathlib.Core.Path.{_≡_, ap, sym}
 use mathlib.Core.Bool.{Bool, true, false, cond}
 use denote.Ref.{now}
 use Rattle.board.specs.Board.{boardIn}
-use Rattle.worker.specs.Worker.{worker}
-use Rattle.worker.specs.Losing.{ended}
+use Rattle.replies.specs.Worker.{worker}
+use Rattle.replies.specs.Losing.{ended}
+use Rattle.replies.proofs.DoneLaws.{done-is}
 use Rattle.worker.specs.Answers.{reconnecting, backedOff}
-use Rattle.worker.proofs.DoneLaws.{done-is}
 use borrow.Author.Needs.{needs}
 use Rattle.worker.proofs.answers.backed_off.Statement.{statement}
 use Rattle.worker.proofs.answers.backed_off.Tie as tie

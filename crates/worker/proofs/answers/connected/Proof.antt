@@ -6,10 +6,10 @@ use Rattle.heads.specs.declared.link.State.the-variants.{Connected}
 use Rattle.engine.specs.Engine.{withLink}
 use Rattle.heads.specs.Link.{isState, withAttempt}
 use Rattle.heads.specs.declared.link.State.the-variants.{Connected}
-use Rattle.worker.specs.Worker.{worker}
-use Rattle.worker.specs.Polling.{polls}
+use Rattle.replies.specs.Worker.{worker}
+use Rattle.replies.proofs.DoneLaws.{quiet-is}
+use Rattle.cycles.specs.Polling.{polls}
 use Rattle.worker.specs.Answers.{connected}
-use Rattle.worker.proofs.DoneLaws.{quiet-is}
 use borrow.Author.Needs.{needs}
 use Rattle.worker.proofs.answers.connected.Statement.{statement}
 use Rattle.worker.proofs.answers.connected.Tie as tie

@@ -12,8 +12,8 @@ use Rattle.descriptions.specs.Descriptions.{learnt, learntNone}
 use Rattle.board.specs.Regions.{boardSize}
 use Rattle.board.specs.Board.{Board, boardIn, withRecords}
 use Rattle.heads.specs.declared.progress.Phase.the-variants.{InfoTold}
-use Rattle.worker.specs.Reply as reply
-use Rattle.worker.specs.Worker.{saidIn}
+use Rattle.replies.specs.Reply as reply
+use Rattle.replies.specs.Worker.{saidIn}
 use Rattle.worker.specs.Answers.{descriptions}
 use Rattle.worker.proofs.AnswerLaws.{told-done}
 use borrow.Author.Tests.{eq-eqb, ne-eqb}

@@ -13,10 +13,10 @@ use Rattle.heads.specs.Link.{withVersion}
 use Rattle.heads.specs.Stats.{reloaded}
 use Rattle.engine.specs.declared.Engine.{Engine}
 use Rattle.heads.specs.declared.progress.Phase.the-variants.{OpenMetaTold}
-use Rattle.worker.specs.Reply as reply
-use Rattle.worker.specs.Worker.{worker, saidIn, asks}
+use Rattle.replies.specs.Reply as reply
+use Rattle.replies.specs.Worker.{worker, saidIn, asks}
+use Rattle.replies.proofs.DoneLaws.{done-is, quiet-done}
 use Rattle.worker.specs.Answers.{answer, numberOf, connected, openVersion}
-use Rattle.worker.proofs.DoneLaws.{done-is, quiet-done}
 use Rattle.worker.proofs.AnswerLaws.{asked-done}
 use borrow.Author.Needs.{needs}
 use Rattle.worker.proofs.answers.open_version.Statement.{statement}

@@ -6,11 +6,11 @@ use lib.Dec.{eqb}
 use denote.Ref.{now}
 use Rattle.board.specs.Board.{boardIn}
 use Rattle.heads.specs.declared.progress.Phase.the-variants.{OpenVersion, OpenFailedTold}
-use Rattle.worker.specs.Reply as reply
-use Rattle.worker.specs.Worker.{worker, saidIn, asks}
-use Rattle.worker.specs.Losing.{isEmpty, failing}
+use Rattle.replies.specs.Reply as reply
+use Rattle.replies.specs.Worker.{worker, saidIn, asks}
+use Rattle.replies.specs.Losing.{isEmpty, failing}
+use Rattle.replies.proofs.DoneLaws.{done-is}
 use Rattle.worker.specs.Answers.{opened}
-use Rattle.worker.proofs.DoneLaws.{done-is}
 use Rattle.worker.proofs.AnswerLaws.{empty-is, asked-done}
 use borrow.Author.Tests.{eq-eqb, ne-eqb}
 use borrow.Author.Needs.{needs}

@@ -7,10 +7,10 @@ use Rattle.values.specs.declared.value.Value.the-variants.{Null}
 use Rattle.writes.specs.ReadBack.{readBackFirst}
 use Rattle.board.specs.Board.{boardIn, keptBack}
 use Rattle.heads.specs.declared.progress.Phase.the-variants.{LostTold, OutcomeTold}
-use Rattle.worker.specs.Reply as reply
-use Rattle.worker.specs.Worker.{worker, saidIn, asks}
+use Rattle.replies.specs.Reply as reply
+use Rattle.replies.specs.Worker.{worker, saidIn, asks}
+use Rattle.replies.proofs.DoneLaws.{done-is}
 use Rattle.worker.specs.Answers.{answer, readBack}
-use Rattle.worker.proofs.DoneLaws.{done-is}
 use Rattle.worker.proofs.AnswerLaws.{asked-done}
 use borrow.Author.Tests.{eq-eqb, ne-eqb}
 use borrow.Author.Needs.{needs}

@@ -13,11 +13,11 @@ use Rattle.heads.specs.Stats.{reconnected}
 use Rattle.engine.specs.declared.Engine.{Engine}
 use Rattle.heads.specs.declared.link.State.the-variants.{Connecting}
 use Rattle.heads.specs.declared.progress.Phase.the-variants.{ConnectingTold}
-use Rattle.worker.specs.Reply as reply
-use Rattle.worker.specs.Worker.{worker, saidIn, asks, stated}
-use Rattle.worker.specs.Losing.{top}
+use Rattle.replies.specs.Reply as reply
+use Rattle.replies.specs.Worker.{worker, saidIn, asks, stated}
+use Rattle.replies.specs.Losing.{top}
+use Rattle.replies.proofs.DoneLaws.{done-is}
 use Rattle.worker.specs.Answers.{reconnecting}
-use Rattle.worker.proofs.DoneLaws.{done-is}
 use Rattle.worker.proofs.AnswerLaws.{asked-done}
 use borrow.Author.Needs.{needs}
 use Rattle.worker.proofs.answers.reconnecting.Statement.{statement}

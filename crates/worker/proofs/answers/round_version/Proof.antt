@@ -18,11 +18,11 @@ use Rattle.heads.specs.Stats.{reloaded}
 use Rattle.engine.specs.declared.Engine.{Engine}
 use Rattle.heads.specs.declared.progress.After.the-variants.{Tail}
 use Rattle.heads.specs.declared.progress.Phase.the-variants.{MetaTold}
-use Rattle.worker.specs.Reply as reply
-use Rattle.worker.specs.Worker.{worker, at, saidIn, asks}
-use Rattle.worker.specs.Polling.{writing}
+use Rattle.replies.specs.Reply as reply
+use Rattle.replies.specs.Worker.{worker, at, saidIn, asks}
+use Rattle.replies.proofs.DoneLaws.{done-is}
+use Rattle.cycles.specs.Polling.{writing}
 use Rattle.worker.specs.Answers.{answer, numberOf, roundVersion}
-use Rattle.worker.proofs.DoneLaws.{done-is}
 use Rattle.worker.proofs.AnswerLaws.{asked-done}
 use borrow.Author.Needs.{needs}
 use Rattle.worker.proofs.answers.round_version.Statement.{statement}

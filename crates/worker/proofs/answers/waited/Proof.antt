@@ -8,10 +8,10 @@ use mir.Syntax.{w64}
 use mir.Facts.{toZ-ofZ}
 use Rattle.board.specs.Board.{boardIn}
 use Rattle.heads.specs.declared.progress.After.the-variants.{Idle, End}
-use Rattle.worker.specs.Worker.{worker, at}
-use Rattle.worker.specs.Polling.{writing}
+use Rattle.replies.specs.Worker.{worker, at}
+use Rattle.replies.proofs.DoneLaws.{done-is}
+use Rattle.cycles.specs.Polling.{writing}
 use Rattle.worker.specs.Answers.{waited}
-use Rattle.worker.proofs.DoneLaws.{done-is}
 use borrow.Author.Needs.{needs}
 use Rattle.worker.proofs.answers.waited.Statement.{statement}
 use Rattle.worker.proofs.answers.waited.Tie as tie

@@ -10,10 +10,10 @@ use Rattle.lent.specs.Lent.{wroteAll}
 use Rattle.writes.specs.ReadBack.{readBackTags}
 use Rattle.board.specs.Board.{Board, boardIn, withAsked}
 use Rattle.heads.specs.declared.progress.Phase.the-variants.{ReadBack, RefusedTold, LostTold}
-use Rattle.worker.specs.Reply as reply
-use Rattle.worker.specs.Worker.{worker, phased, saidIn, tell, asks}
+use Rattle.replies.specs.Reply as reply
+use Rattle.replies.specs.Worker.{worker, phased, saidIn, tell, asks}
+use Rattle.replies.proofs.DoneLaws.{done-is}
 use Rattle.worker.specs.Answers.{answer, written}
-use Rattle.worker.proofs.DoneLaws.{done-is}
 use Rattle.worker.proofs.AnswerLaws.{asked-done, told-done}
 use borrow.Author.Tests.{eq-eqb, ne-eqb}
 use borrow.Author.Needs.{needs}

@@ -10,7 +10,7 @@ use borrow.Author.Tests.{lt-ltb, le-ltb, not-true, not-false}
 use Rattle.ieee.specs.Times.{clockOk}
 use Rattle.board.specs.Board.{boardIn}
 use Rattle.board.specs.Regions.{boardSize}
-use Rattle.worker.specs.Worker.{at, worker}
+use Rattle.replies.specs.Worker.{at, worker}
 use Rattle.worker.specs.Answers.{answer, awaited, answers, contents, stepCheck}
 use Rattle.worker.proofs.StepLaws.{tags-long}
 use borrow.Author.Needs.{needs}

@@ -5,10 +5,10 @@ use lib.Dec.{eqb}
 use denote.Ref.{now}
 use borrow.Author.Tests.{eq-eqb, ne-eqb}
 use Rattle.board.specs.Board.{boardIn}
-use Rattle.worker.specs.Worker.{worker}
-use Rattle.worker.specs.Losing.{down}
+use Rattle.replies.specs.Worker.{worker}
+use Rattle.replies.specs.Losing.{down}
+use Rattle.replies.proofs.DoneLaws.{done-is}
 use Rattle.worker.specs.Answers.{answer, opened, connectAnswered}
-use Rattle.worker.proofs.DoneLaws.{done-is}
 use borrow.Author.Needs.{needs}
 use Rattle.worker.proofs.steps.connect.Statement.{statement}
 use Rattle.worker.proofs.steps.connect.Tie as tie

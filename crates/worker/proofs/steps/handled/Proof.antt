@@ -12,10 +12,10 @@ use Rattle.heads.proofs.progress.Phase.{the-type}
 use Rattle.heads.specs.declared.progress.Phase.{Phase}
 use Rattle.heads.specs.declared.progress.Phase.the-variants.{Begin, Connect, OpenVersion, Version, Read, Describe, Write, ReadBack, Wait, Backoff, OpenFailedTold, OpenMetaTold, ConnectedTold, MetaTold, ValuesTold, InfoTold, RefusedTold, LostTold, OutcomeTold, BackTold, FailedTold, StaleTold, DisconnectedTold, ConnectingTold, Stopped}
 use Rattle.board.specs.Board.{boardIn}
-use Rattle.worker.specs.Worker.{Worker, At, at, worker}
-use Rattle.worker.specs.Losing.{top}
+use Rattle.replies.specs.Worker.{Worker, At, at, worker}
+use Rattle.replies.specs.Losing.{top}
+use Rattle.replies.proofs.DoneLaws.{done-is}
 use Rattle.worker.specs.Answers.{Answer, answer, connectAnswered, openVersion, roundVersion, results, descriptions, written, readBack, waited, backedOff, taken, handled}
-use Rattle.worker.proofs.DoneLaws.{done-is}
 use borrow.Author.Needs.{needs}
 use Rattle.worker.proofs.steps.handled.Statement.{statement}
 use Rattle.worker.proofs.steps.handled.Tie as tie

@@ -12,12 +12,12 @@ use borrow.Author.Tests.{eqb-false}
 use borrow.Author.Tests.{eq-eqb, ne-eqb}
 use Rattle.engine.specs.declared.Engine.{Engine}
 use Rattle.board.specs.Board.{boardIn}
-use Rattle.worker.specs.declared.reply.Reply.{Reply}
-use Rattle.worker.specs.Reply as reply
-use Rattle.worker.specs.Worker.{At, at, worker, tell, Done}
-use Rattle.worker.specs.Polling.{finished}
+use Rattle.replies.specs.declared.reply.Reply.{Reply}
+use Rattle.replies.specs.Reply as reply
+use Rattle.replies.specs.Worker.{At, at, worker, tell, Done}
+use Rattle.replies.proofs.DoneLaws.{done-is, quiet-done}
+use Rattle.cycles.specs.Polling.{finished}
 use Rattle.worker.specs.Answers.{answer, stepCheck, handled, stepped, step}
-use Rattle.worker.proofs.DoneLaws.{done-is, quiet-done}
 use Rattle.worker.proofs.StepLaws.{step-refused, step-accepted, stepped-plain}
 use borrow.Author.Needs.{needs}
 use Rattle.worker.proofs.steps.step.Statement.{statement}

@@ -13,12 +13,12 @@ use Rattle.heads.specs.declared.progress.Phase.{Phase}
 use Rattle.heads.specs.declared.progress.Phase.the-variants.{Begin, Connect, OpenVersion, Version, Read, Describe, Write, ReadBack, Wait, Backoff, OpenFailedTold, OpenMetaTold, ConnectedTold, MetaTold, ValuesTold, InfoTold, RefusedTold, LostTold, OutcomeTold, BackTold, FailedTold, StaleTold, DisconnectedTold, ConnectingTold, Stopped}
 use Rattle.heads.specs.declared.progress.After.the-variants.{Tail}
 use Rattle.board.specs.Board.{boardIn}
-use Rattle.worker.specs.Reply as reply
-use Rattle.worker.specs.Worker.{Worker, At, at, worker, asks}
-use Rattle.worker.specs.Losing.{backingOff, disconnected, staling, down, top}
-use Rattle.worker.specs.Polling.{polls, writing, checking, reading}
+use Rattle.replies.specs.Reply as reply
+use Rattle.replies.specs.Worker.{Worker, At, at, worker, asks}
+use Rattle.replies.specs.Losing.{backingOff, disconnected, staling, down, top}
+use Rattle.replies.proofs.DoneLaws.{done-is, quiet-done}
+use Rattle.cycles.specs.Polling.{polls, writing, checking, reading}
 use Rattle.worker.specs.Answers.{connected, backApplied, taken}
-use Rattle.worker.proofs.DoneLaws.{done-is, quiet-done}
 use borrow.Author.Needs.{needs}
 use Rattle.worker.proofs.steps.taken.Statement.{statement}
 use Rattle.worker.proofs.steps.taken.Tie as tie

@@ -1,0 +1,2 @@
+-- Laws of what a step goes on to.
+pub mod PollingLaws
