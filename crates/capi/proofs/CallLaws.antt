@@ -1,26 +1,18 @@
 -- What a call comes to: memory of another length, a refusal, or the work done.
 use mathlib.Core.Path.{_≡_, refl, ap, ap₂, sym, _∙_}
-use mathlib.Core.Bool.{Bool, true, false, cond, _&&_, true≢false}
-use mathlib.Core.List.{List, [], _∷_}
-use Prim.Native.Nat.{ℕ, zero, suc, _%_, _<_, _≤_}
-use native.Mathlib.Omega.{arith}
-use native.Mathlib.Nat.{mod-eq-of-lt}
+use mathlib.Core.Bool.{Bool, true, false, cond, true≢false}
+use mathlib.Core.List.{List, []}
+use Prim.Native.Nat.{ℕ}
 use borrow.Rule.Slice.PartMut.{putMid, put-same}
-use lib.Dec.{eqb, leb, ltb}
-use lib.Ieee.{Float}
+use lib.Dec.{eqb}
 use lib.ListN.{length}
-use borrow.Author.Tests.{eq-eqb, ne-eqb, leb-false, ltb-false, eqb-false}
-use Rattle.names.specs.Directory.{directoryCheck, maxNames, maxNameLength}
-use Rattle.names.proofs.DirectoryLaws.{checked}
-use Rattle.values.specs.declared.value.Value.{Value}
-use Rattle.results.specs.Results.{valueOk}
+use borrow.Author.Tests.{ne-eqb}
 use Rattle.heads.specs.Link.{isState}
 use Rattle.heads.specs.declared.link.State.the-variants.{Connected}
 use Rattle.engine.specs.declared.Engine.{Engine}
 use Rattle.heads.specs.declared.link.State.the-variants.{Connected}
 use Rattle.lent.specs.Lent.{wroteAll}
 use Rattle.board.specs.Regions.{part, boardSize}
-use Rattle.board.specs.Board.{Board}
 use Rattle.replies.specs.Reply as reply
 use Rattle.replies.specs.Worker.{Worker, Told, At, worker, tell}
 use Rattle.replies.specs.Losing.{isEmpty}
@@ -31,10 +23,9 @@ use Rattle.worker.proofs.StepLaws.{stepped-plain}
 use Rattle.replies.specs.Losing.{isEmpty}
 use Rattle.replies.specs.declared.reply.Reply.{Reply}
 use Rattle.replies.specs.declared.reply.Said.{Said}
-use Rattle.capi.specs.Creation.{Setup, creationCheck}
 use Rattle.capi.specs.Memory.{memorySize, notAnEngine, workerIn, Called}
 use Rattle.capi.proofs.Laws.{board-put}
-use Rattle.capi.specs.Calls.{clockCheck, noTag, first, tierCheck, writeCheck, maxWrites, SteppedBoard, Stepped}
+use Rattle.capi.specs.Calls.{SteppedBoard, Stepped}
 
 pub alien-call : (bs : List ℕ) (n : ℕ) (W : Worker) → (length bs ≡ memorySize → ⊥) → Called bs bs notAnEngine n W
 alien-call bs n W h = record {
@@ -62,65 +53,6 @@ done-call old new n W h e d l = record {
   kept = λ g. absurd (g refl);
   long = l;
 }
-
--- ---- what an accepted call has passed
-
--- the first check refuses
-pub first-refused : (n a m : ℕ) → n ≡ a → (n ≡ 0 → ⊥) → n ≡ first a m
-first-refused n a m e z = let t : eqb a 0 ≡ false = ne-eqb a 0 (λ q. z (e ∙ q)) in e ∙ rw t refl
-
--- the first check is passed, and the others come to r
-pub first-passed : (n a m r : ℕ) → n ≡ a → n ≡ 0 → r ≡ m → r ≡ first a m
-first-passed n a m r e z q = let t : eqb a 0 ≡ true = eq-eqb a 0 (sym e ∙ z) in q ∙ rw t refl
-
-pub first-zero : (n m : ℕ) → first n m ≡ 0 → (n ≡ 0) × (m ≡ 0)
-first-zero zero m e = (refl, e)
-first-zero (suc n) m e = let z : eqb (suc n) 0 ≡ false = ne-eqb (suc n) 0 (λ q. omega arith) in absurd (let x : suc n ≡ 0 = rw z at e in omega arith)
-
--- Check 56, by the length of the order
-pub none-in-tiers : (order : List ℕ) → length order ≡ 0 → _≡_ {A = ℕ} 0 (cond (isEmpty order) 0 56)
-none-in-tiers [] e = refl
-none-in-tiers (k ∷ ks) e = absurd (omega (arith, e))
-
-pub some-in-tiers : (order : List ℕ) → (length order ≡ 0 → ⊥) → _≡_ {A = ℕ} 56 (cond (isEmpty order) 0 56)
-some-in-tiers [] e = absurd (e refl)
-some-in-tiers (k ∷ ks) e = refl
-
--- Check 14, of the settings and of the configured groups
-pub settings-fail : (a b : Bool) → a ≡ false → _≡_ {A = ℕ} 14 (cond (a && b) 0 14)
-settings-fail a b e = rw e refl
-
-pub groups-fail : (a b : Bool) → a ≡ true → b ≡ false → _≡_ {A = ℕ} 14 (cond (a && b) 0 14)
-groups-fail a b e f = rw (e, f) refl
-
-pub both-pass : (a b : Bool) → a ≡ true → b ≡ true → _≡_ {A = ℕ} 0 (cond (a && b) 0 14)
-both-pass a b e f = rw (e, f) refl
-
-tag-and-tier : (b c : Bool) → _≡_ {A = ℕ} (cond b 23 (cond c 24 0)) 0 → (b ≡ false) × (c ≡ false)
-tag-and-tier true c e = absurd (omega arith)
-tag-and-tier false true e = absurd (omega arith)
-tag-and-tier false false e = (refl, refl)
-
-pub tier-passed : (W : Worker) (clock : Float) (tag tier : ℕ) → tierCheck W clock tag tier ≡ 0 → (tag < W .head .count) × (tier ≤ 3)
-unfolding tierCheck
-tier-passed W clock tag tier e =
-    let p = tag-and-tier (noTag W tag) (ltb 3 tier) (first-zero (clockCheck W clock) _ e .1) in
-    (leb-false (W .head .count) tag (p .0), ltb-false 3 tier (p .1))
-
-tag-only : (b : Bool) (n : ℕ) → cond b 23 n ≡ 0 → b ≡ false
-tag-only true n e = absurd (omega arith)
-tag-only false n e = refl
-
-pub write-passed : (W : Worker) (tag : ℕ) (v : Value) → writeCheck W tag v ≡ 0 → tag < W .head .count
-unfolding writeCheck
-write-passed W tag v e = leb-false (W .head .count) tag (tag-only (noTag W tag) _ e)
-
--- a directory that creation accepts has few names
-pub few-names : (s : Setup) → creationCheck s ≡ 0 → length (s .ends) % 65536 ≡ length (s .ends)
-unfolding creationCheck
-few-names s e =
-    let few = checked maxNames maxNameLength (s .names) (s .ends) (first-zero (directoryCheck maxNames maxNameLength (s .names) (s .ends)) _ e .0) .few in
-    mod-eq-of-lt (omega (arith, few))
 
 -- ---- steps
 

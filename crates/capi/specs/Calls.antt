@@ -1,23 +1,19 @@
 -- Tier calls, loads, writes, stops and steps.
-use mathlib.Core.Bool.{Bool, false, not, cond}
-use mathlib.Core.List.{List, []}
+use mathlib.Core.Bool.{false, not}
+use mathlib.Core.List.{List}
 use mathlib.Core.Path.{_≡_}
-use Prim.Native.Nat.{ℕ, _%_}
-use lib.Dec.{eqb, ltb, leb}
-use lib.Ieee.{Float, lt}
+use Prim.Native.Nat.{ℕ}
+use lib.Dec.{eqb}
+use lib.Ieee.{Float}
 use lib.ListN.{length}
-use Rattle.ieee.specs.Times.{clockOk}
 use Rattle.values.specs.declared.value.Value.{Value}
-use Rattle.results.specs.Results.{valueOk}
 use Rattle.tiers.specs.Tiers.{setTier}
-use Rattle.panel.specs.Panel.{panelCheck, loadedList}
+use Rattle.panel.specs.Panel.{loadedList}
 use Rattle.writes.specs.Queue.{queuedWith}
 use Rattle.writes.specs.declared.queue.Write.{Write}
 use Rattle.heads.specs.Link.{isState, stopped}
 use Rattle.heads.specs.declared.link.State.the-variants.{Connected}
-use Rattle.engine.specs.Engine.{withClock, withLink}
-use Rattle.heads.specs.Link.{isState, stopped}
-use Rattle.heads.specs.declared.link.State.the-variants.{Connected}
+use Rattle.engine.specs.Engine.{withClock}
 use Rattle.lent.specs.Lent.{wroteAll}
 use Rattle.board.specs.Board.{withTable, withQueue}
 use Rattle.replies.specs.Reply as reply
@@ -30,45 +26,13 @@ use Rattle.replies.specs.declared.reply.Reply.{Reply}
 use Rattle.replies.specs.declared.reply.Said.{Said}
 use Rattle.capi.specs.Memory.{memorySize, notAnEngine, workerIn}
 
--- Checks 21 and 22: a clock reading; 0 where it is accepted
-unfoldable pub clockCheck : Worker → Float → ℕ
-clockCheck W clock = cond (not (clockOk clock)) 21 (cond (lt clock (W .head .clock)) 22 0)
-
--- Check 23: no such tag
-abbrev pub noTag : Worker → ℕ → Bool
-noTag W tag = leb (W .head .count) tag
-
--- the first number that is not 0
-abbrev pub first : ℕ → ℕ → ℕ
-first n m = cond (eqb n 0) m n
-
--- Checks of a tier call: clock, tag, tier
-unfoldable pub tierCheck : Worker → Float → ℕ → ℕ → ℕ
-tierCheck W clock tag tier = first (clockCheck W clock) (cond (noTag W tag) 23 (cond (ltb 3 tier) 24 0))
-
 -- Rule 5: a tier call that is accepted
 abbrev pub tiered : Worker → Float → ℕ → ℕ → Worker
 tiered W clock tag tier = worker (withClock (W .head) clock) (withTable (W .board) (setTier (W .board .table) tag tier (W .head .options .grace) clock))
 
--- Checks of a load: clock, then the list (51, 53, 54, 55), then 56: the engine has a tag in a tier
-unfoldable pub loadCheck : Worker → Float → List ℕ → ℕ
-loadCheck W clock list = first (clockCheck W clock) (first (panelCheck (W .head .count) list) (cond (isEmpty (W .board .table .order)) 0 56))
-
 -- Rule 11: a load that is accepted
 abbrev pub loaded : Worker → Float → List ℕ → Worker
 loaded W clock list = worker (withClock (W .head) clock) (withTable (W .board) (loadedList (W .board .table) list (W .head .options .grace) clock))
-
--- Check 32: so many writes may wait
-abbrev pub maxWrites : ℕ
-maxWrites = 32
-
--- Checks of a write: tag, state (31), room (32), then 42
-unfoldable pub writeCheck : Worker → ℕ → Value → ℕ
-writeCheck W tag v =
-    cond (noTag W tag) 23
-    (cond (not (isState (W .head .link) Connected)) 31
-    (cond (leb maxWrites (length (W .board .queue))) 32
-    (cond (valueOk v) 0 42)))
 
 abbrev pub writeOf : ℕ → Value → Write
 writeOf tag v = record { tag = tag; value = v }

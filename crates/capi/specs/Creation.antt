@@ -1,32 +1,9 @@
 -- Creation.
-use mathlib.Core.Bool.{_&&_, cond}
-use mathlib.Core.List.{List}
-use Prim.Native.Nat.{ℕ}
 use lib.ListN.{length}
-use Rattle.names.specs.Directory.{directoryCheck, maxNames, maxNameLength}
-use Rattle.rounds.specs.Options.{optionsCheck}
-use Rattle.rounds.specs.declared.tick.Options.{Options}
-use Rattle.settings.specs.Settings.{settingsOk}
-use Rattle.settings.specs.Configured.{configuredOk}
 use Rattle.engine.specs.Engine.{freshEngine}
 use Rattle.board.specs.Creation.{freshBoard}
 use Rattle.replies.specs.Worker.{Worker, worker}
-use Rattle.capi.specs.Calls.{first}
-
--- What creation is given: the names with their end places, the options, the settings and the configured groups.
-pub record Setup : Type 0 where
-  pub names : List ℕ
-  pub ends : List ℕ
-  pub options : Options
-  pub settings : List ℕ
-  pub groups : List ℕ
-
--- Creation goes down the table: the directory (1 to 4), the options (11 to 13), then 14
-unfoldable pub creationCheck : Setup → ℕ
-creationCheck s =
-    first (directoryCheck maxNames maxNameLength (s .names) (s .ends))
-    (first (optionsCheck (s .options))
-    (cond (settingsOk (length (s .ends)) (s .settings) && configuredOk (s .groups)) 0 14))
+use Rattle.checks.specs.Creation.{Setup}
 
 abbrev pub freshWorker : Setup → Worker
 freshWorker s = worker (freshEngine (s .options) (length (s .ends))) (freshBoard (s .names) (s .ends) (s .settings) (s .groups))

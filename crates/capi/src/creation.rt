@@ -1,40 +1,15 @@
 // Creation.
 ghost use mathlib.Core.Path.{_≡_};
 ghost use Rattle.capi.specs.Memory.{Called};
-ghost use Rattle.capi.specs.Creation.{creationCheck, freshWorker};
+ghost use Rattle.checks.specs.Creation.{creationCheck};
+ghost use Rattle.capi.specs.Creation.{freshWorker};
 use super::whole::MEMORY;
 use super::whole::NOT_AN_ENGINE;
 use super::whole::create;
 use super::whole::put_head;
+use checks::creation::creation_check;
 use engine::Engine;
 use rounds::tick::Options;
-
-// 0, or the number of the check that refuses.
-fn creation_check<'a>(
-    names: &'a [u8],
-    ends: &'a [u32],
-    o: Options,
-    settings: &[u8],
-    groups: &[u8],
-) -> u32
-    ensures { λ r. ⌜ r ≡ creationCheck (record { names = now (names .entry); ends = now (ends .entry); options = o; settings = now (settings .entry); groups = now (groups .entry) }) ⌝ }
-{
-    let n = directory::check_in(names, ends);
-    if n != 0 {
-        return n as u32;
-    }
-    let m = rounds::options::check_options(o);
-    if m != 0 {
-        return m as u32;
-    }
-    if !settings::setting::check_settings(settings, ends.len()) {
-        return 14;
-    }
-    if !settings::configured::check_configured(groups) {
-        return 14;
-    }
-    0
-}
 
 // An engine in lent memory. The names and all else that is handed in are needed for this call alone.
 #[no_mangle]

@@ -2,7 +2,6 @@
 // host lends. Each answers for all numbers, bytes and lengths: with the work done, or with the number of the check that
 // refuses it, and then nothing is written.
 pub mod calls; // tier calls, loads, writes, stops, steps
-mod checks; // their checks
 pub mod creation; // creation
 pub mod looks; // looks, which change nothing
 pub mod sizes; // sizes of what the host lends

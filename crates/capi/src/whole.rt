@@ -9,12 +9,14 @@ ghost use Rattle.board.specs.Board.{withTable, withQueue};
 ghost use Rattle.board.specs.Creation.{freshBoard};
 ghost use Rattle.replies.specs.Worker.{worker, withBoard, at};
 ghost use Rattle.worker.specs.Answers.{step, answer};
+ghost use Rattle.checks.specs.Calls.{loadCheck, writeCheck};
 ghost use Rattle.capi.specs.Memory.{memorySize, workerIn};
 ghost use Rattle.capi.specs.Calls.{SteppedBoard};
 use engine::Engine;
 use engine::load;
 use engine::store;
 use replies::reply::Said;
+use values::value::Value;
 use worker::checks::Answer;
 use replies::reply::Said;
 use writes::queue::Write;
@@ -43,6 +45,21 @@ pub fn put_clock(mem: &mut [u8], clock: f64)
     ensures { λ _. ⌜ workerIn (now (mem .exit)) ≡ worker (withClock (workerIn (now (mem .entry)) .head) clock) (workerIn (now (mem .entry)) .board) ⌝ }
 {
     engine::put_clock(&mut mem[0..256], clock);
+}
+
+pub fn load_check(mem: &[u8], e: Engine, clock: f64, list: &[u8]) -> u32
+    requires { ⌜ length (now mem) ≡ memorySize ⌝ }
+    ensures { λ r. ⌜ r ≡ loadCheck (worker e (workerIn (now (mem .entry)) .board)) clock (now (list .entry)) ⌝ }
+{
+    checks::calls::load_check(&mem[256..38400], e, clock, list)
+}
+
+pub fn write_check(mem: &[u8], tag: u32, value: Value) -> u32
+    requires { ⌜ length (now mem) ≡ memorySize ⌝ }
+    ensures { λ r. ⌜ r ≡ writeCheck (workerIn (now (mem .entry))) tag value ⌝ }
+{
+    let e = head_of(mem);
+    checks::calls::write_check(&mem[256..38400], e, tag, value)
 }
 
 pub fn set_tier(mem: &mut [u8], k: u16, tier: u8, grace: f64, clock: f64)

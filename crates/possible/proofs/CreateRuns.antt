@@ -40,7 +40,8 @@ use denote.Triple.Entry.{onEntry, Args, Vals}
 use denote.Triple.End.{Kepts, lastsOf}
 use denote.Triple.Spec.{Spec, tripleOf, Meets, exits}
 use Rattle.capi.specs.Memory.{Called}
-use Rattle.capi.specs.Creation.{Setup, creationCheck, freshWorker}
+use Rattle.checks.specs.Creation.{Setup, creationCheck}
+use Rattle.capi.specs.Creation.{freshWorker}
 use Rattle.capi.proofs.creation.wz_create.Met as create
 use Rattle.possible.proofs.RunLaws.{has-result, with-emp, lent-mut, taken-back, good-left}
 use Rattle.possible.proofs.BlockRuns.{held, lent-numbers}

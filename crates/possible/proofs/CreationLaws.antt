@@ -8,7 +8,7 @@ use native.Mathlib.Omega.{arith}
 use lib.ListN.{length}
 use denote.Builtin.{u8}
 use denote.Slice.{Room}
-use Rattle.capi.specs.Creation.{Setup}
+use Rattle.checks.specs.Creation.{Setup}
 use Rattle.turns.specs.Contracts.{CreateMet}
 use Rattle.turns.specs.Demand.{Claim}
 use Rattle.possible.specs.Typed.{EveryList}

@@ -5,7 +5,8 @@ use Prim.Native.Nat.{ℕ}
 use lib.Ieee as ieee-lib
 use lib.ListN.{length, length-replicate, replicate}
 use Rattle.ieee.specs.Round.{float}
-use Rattle.capi.specs.Creation.{Setup, creationCheck, freshWorker}
+use Rattle.checks.specs.Creation.{Setup, creationCheck}
+use Rattle.capi.specs.Creation.{freshWorker}
 use Rattle.capi.specs.Memory.{memorySize, workerIn}
 use Rattle.turns.specs.Contracts.{CreateMet}
 use Rattle.possible.proofs.PossibleLaws.{ref}
@@ -38,7 +39,7 @@ use Rattle.board.specs.Regions as board-Regions
 use Rattle.board.specs.Board as board-Board
 use Rattle.board.specs.Creation as board-Creation
 use Rattle.capi.specs.Memory as capi-Memory
-use Rattle.capi.specs.Creation as capi-Creation
+use Rattle.checks.specs.Creation as checks-Creation
 
 abbrev pub setup : Setup
 setup = record {
@@ -65,7 +66,7 @@ lent = replicate 38400 0
 
 -- creation accepts this setup; the memory holds a fresh engine, and is as long as the one that was lent
 computed : (creationCheck setup ≡ 0) × (workerIn fresh ≡ freshWorker setup) × (length fresh ≡ 38400)
-unfolding lists-Keep.keep lists-Keep.upTo names-Order.compared names-Order.lowerOf names-Bits.lastDot names-Bits.allDigits names-Bits.splitBit names-Directory.cut names-Directory.goodEnds names-Directory.goodBytes names-Directory.goodNames names-Directory.risingFrom names-Directory.rising names-Directory.directoryCheck names-Keys.below names-Keys.find words-Entry.entryFrom words-Entry.entryWordsOf memory-Blocks.blocks memory-Cells.cellsIn memory-Cells.rowsIn memory-Halves.halvesIn tags-Lists.listIn ranks-Ranks.over table-Row.tagFrom table-Table.tableIn groups-Groups.groupFrom groups-Groups.groupsIn groups-Groups.groupRead rounds-Options.optionsCheck settings-Records.recordsOf settings-Records.every settings-Settings.settingFrom settings-Settings.settingIn settings-Settings.settingOk settings-Settings.settingsOk settings-Configured.configuredFrom settings-Configured.givenGroups settings-Configured.groupOk settings-Configured.configuredOk settings-Configured.groupPlaces settings-Configured.configuredIn versions-Versions.tagTaken versions-Versions.eachAt versions-Versions.versionTable heads-Progress.phaseFrom heads-Stats.tailStats engine-Engine.engineFrom engine-Engine.engineIn engine-Engine.stored writes-Queue.writeFrom writes-Queue.placesIn writes-Queue.queueIn board-Regions.regionsIn board-Board.boardOf board-Board.boardIn board-Creation.freshBoard capi-Memory.workerIn capi-Creation.creationCheck ieee-lib.eq ieee-lib.le ieee-lib.lt ieee-lib.add ieee-lib.sub ieee-lib.mul ieee-lib.div ieee-lib.neg ieee-lib.ofInt ieee-lib.round ieee-lib.toUnsigned ieee-lib.ofBits ieee-lib.toBits
+unfolding lists-Keep.keep lists-Keep.upTo names-Order.compared names-Order.lowerOf names-Bits.lastDot names-Bits.allDigits names-Bits.splitBit names-Directory.cut names-Directory.goodEnds names-Directory.goodBytes names-Directory.goodNames names-Directory.risingFrom names-Directory.rising names-Directory.directoryCheck names-Keys.below names-Keys.find words-Entry.entryFrom words-Entry.entryWordsOf memory-Blocks.blocks memory-Cells.cellsIn memory-Cells.rowsIn memory-Halves.halvesIn tags-Lists.listIn ranks-Ranks.over table-Row.tagFrom table-Table.tableIn groups-Groups.groupFrom groups-Groups.groupsIn groups-Groups.groupRead rounds-Options.optionsCheck settings-Records.recordsOf settings-Records.every settings-Settings.settingFrom settings-Settings.settingIn settings-Settings.settingOk settings-Settings.settingsOk settings-Configured.configuredFrom settings-Configured.givenGroups settings-Configured.groupOk settings-Configured.configuredOk settings-Configured.groupPlaces settings-Configured.configuredIn versions-Versions.tagTaken versions-Versions.eachAt versions-Versions.versionTable heads-Progress.phaseFrom heads-Stats.tailStats engine-Engine.engineFrom engine-Engine.engineIn engine-Engine.stored writes-Queue.writeFrom writes-Queue.placesIn writes-Queue.queueIn board-Regions.regionsIn board-Board.boardOf board-Board.boardIn board-Creation.freshBoard capi-Memory.workerIn checks-Creation.creationCheck ieee-lib.eq ieee-lib.le ieee-lib.lt ieee-lib.add ieee-lib.sub ieee-lib.mul ieee-lib.div ieee-lib.neg ieee-lib.ofInt ieee-lib.round ieee-lib.toUnsigned ieee-lib.ofBits ieee-lib.toBits
 computed = (refl, refl, refl)
 
 pub fresh-long : length fresh ≡ 38400

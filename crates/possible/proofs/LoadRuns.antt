@@ -41,7 +41,8 @@ use denote.Triple.End.{Kepts, lastsOf}
 use denote.Triple.Spec.{Spec, tripleOf, Meets, exits}
 use Rattle.possible.proofs.RunLaws.{has-result, with-emp, lent-mut, lent-shr, taken-back, good-left}
 use Rattle.capi.specs.Memory.{workerIn, Called}
-use Rattle.capi.specs.Calls.{loadCheck, loaded}
+use Rattle.checks.specs.Calls.{loadCheck}
+use Rattle.capi.specs.Calls.{loaded}
 use Rattle.capi.proofs.calls.wz_load.Met as load
 
 abbrev S : Signature

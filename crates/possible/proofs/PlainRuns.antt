@@ -17,7 +17,8 @@ use denote.Signature.{plain}
 use denote.Slice.{Room}
 use Rattle.words.specs.Value.{valueFrom}
 use Rattle.capi.specs.Memory.{workerIn, Called}
-use Rattle.capi.specs.Calls.{tierCheck, tiered, writeCheck, wrote, halted}
+use Rattle.checks.specs.Calls.{tierCheck, writeCheck}
+use Rattle.capi.specs.Calls.{tiered, wrote, halted}
 use Rattle.capi.proofs.calls.wz_set_tier.Met as tier
 use Rattle.capi.proofs.calls.wz_write.Met as write
 use Rattle.capi.proofs.calls.wz_stop.Met as stop

@@ -10,7 +10,7 @@ use prog.Model.{AllFit}
 use Rattle.histories.specs.Events.{Each}
 use Rattle.histories.specs.Histories.{calls, Happened}
 use Rattle.capi.specs.Memory.{memorySize}
-use Rattle.capi.specs.Creation.{Setup, creationCheck}
+use Rattle.checks.specs.Creation.{Setup, creationCheck}
 use Rattle.turns.specs.Calls.{Call}
 use Rattle.turns.specs.Contracts.{CreateMet, Asked, Learnt}
 use Rattle.turns.specs.Demand.{History, Demand3}

@@ -36,9 +36,11 @@ use Rattle.histories.specs.Histories.{atEach}
 use Rattle.histories.specs.Respects.{Respects}
 use Rattle.board.specs.Creation.{freshBoard, freshWords, tagRoom}
 use Rattle.replies.specs.Worker.{Worker, at}
-use Rattle.capi.specs.Calls.{clockCheck, noTag, first, tierCheck, tiered, loadCheck, writeCheck, wrote, halted, answerOf}
+use Rattle.capi.specs.Calls.{tiered, wrote, halted, answerOf}
+use Rattle.checks.specs.Calls.{clockCheck, noTag, first, tierCheck, loadCheck, writeCheck}
 use Rattle.capi.specs.Calls as calls
-use Rattle.capi.specs.Creation.{Setup, creationCheck, freshWorker}
+use Rattle.checks.specs.Creation.{Setup, creationCheck}
+use Rattle.capi.specs.Creation.{freshWorker}
 use Rattle.turns.specs.Calls.{Call, tier, load, steps, write, stop, lookState, lookStats, lookCounts, lookGroups, lookTable, lookPanel, lookTag, accepted, after}
 use Rattle.turns.specs.Demand.{roundIn, event, Moment, moment}
 use Rattle.turns.proofs.RateLaws.{rated-same, tier-settings, load-settings, rated-taken}

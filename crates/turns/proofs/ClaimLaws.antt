@@ -12,7 +12,8 @@ use Rattle.names.specs.Directory.{namesOf}
 use Rattle.names.proofs.DirectoryLaws.{length-names}
 use Rattle.histories.proofs.HistoryLaws.{claim}
 use Rattle.capi.specs.Memory.{memorySize, workerIn, Called}
-use Rattle.capi.specs.Creation.{Setup, creationCheck, freshWorker}
+use Rattle.checks.specs.Creation.{Setup, creationCheck}
+use Rattle.capi.specs.Creation.{freshWorker}
 use Rattle.turns.specs.Calls.{answer, after}
 use Rattle.turns.specs.Contracts.{Asked, Learnt}
 use Rattle.turns.specs.Demand.{event, slicesIn, ByName, Claim}

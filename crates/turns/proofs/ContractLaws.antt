@@ -9,7 +9,8 @@ use borrow.Author.Tests.{eqb-true, eqb-false, eq-eqb}
 use Rattle.words.specs.Value.{valueFrom}
 use Rattle.replies.specs.Worker.{Worker}
 use Rattle.capi.specs.Memory.{memorySize, workerIn, Called}
-use Rattle.capi.specs.Calls.{tierCheck, tiered, loadCheck, loaded, writeCheck, wrote, halted}
+use Rattle.checks.specs.Calls.{tierCheck, loadCheck, writeCheck}
+use Rattle.capi.specs.Calls.{tiered, loaded, wrote, halted}
 use Rattle.capi.specs.Looks.{isEngine, stateLook, statsLook, countsLook, tagLook}
 use Rattle.turns.specs.Calls.{Call, tier, load, steps, write, stop, lookState, lookStats, lookCounts, lookGroups, lookTable, lookPanel, lookTag}
 use Rattle.turns.specs.Calls.{Answer, numberIs, told, stateIs, statsAre, countsAre, listIs, tagIs, answer, after}

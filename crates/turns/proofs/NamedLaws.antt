@@ -19,7 +19,7 @@ use Rattle.replies.specs.Worker.{Worker, At, Told, at}
 use Rattle.cycles.specs.Polling.{roundAt}
 use Rattle.worker.specs.Answers.{Answer, clocked, stepped, step}
 use Rattle.capi.specs.Calls.{answerOf}
-use Rattle.capi.specs.Creation.{Setup}
+use Rattle.checks.specs.Creation.{Setup}
 use Rattle.turns.specs.Calls.{Call, tier, load, steps, write, stop, lookState, lookStats, lookCounts, lookGroups, lookTable, lookPanel, lookTag}
 use Rattle.turns.specs.Demand.{roundIn, tier2ByName, TookByName, moment, ByName}
 use Rattle.turns.proofs.TierLaws.{none-cut}

@@ -33,7 +33,8 @@ use Rattle.rounds.specs.declared.tick.Options.{Options}
 use Rattle.histories.specs.Events.{Each}
 use Rattle.histories.specs.Histories.{atEach}
 use Rattle.capi.specs.Calls.{answerOf}
-use Rattle.capi.specs.Creation.{Setup, creationCheck, freshWorker}
+use Rattle.checks.specs.Creation.{Setup, creationCheck}
+use Rattle.capi.specs.Creation.{freshWorker}
 use Rattle.turns.specs.Calls.{Call, tier, load, steps, write, stop, lookState, lookStats, lookCounts, lookGroups, lookTable, lookPanel, lookTag, after}
 use Rattle.turns.specs.Demand.{moment}
 use Rattle.turns.specs.Once.{answeredTo, OnceAt, Once}

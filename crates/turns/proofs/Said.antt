@@ -20,8 +20,10 @@ use Rattle.shown.specs.declared.counts.CountsLook.{CountsLook}
 use Rattle.shown.specs.declared.lists.ListLook.{ListLook}
 use Rattle.shown.specs.declared.tag.TagLook.{TagLook}
 use Rattle.capi.specs.Memory.{workerIn, Called}
-use Rattle.capi.specs.Calls.{tierCheck, tiered, loadCheck, loaded, writeCheck, wrote, halted, answerOf, Stepped}
-use Rattle.capi.specs.Creation.{Setup, creationCheck, freshWorker}
+use Rattle.checks.specs.Calls.{tierCheck, loadCheck, writeCheck}
+use Rattle.capi.specs.Calls.{tiered, loaded, wrote, halted, answerOf, Stepped}
+use Rattle.checks.specs.Creation.{Setup, creationCheck}
+use Rattle.capi.specs.Creation.{freshWorker}
 use Rattle.capi.specs.Looks.{stateLook, statsLook, countsLook, groupCells, groupCount, groupCheck, tableCount, tableCheck, panelBytes, panelCount, panelCode, tagLook}
 use Rattle.turns.specs.Calls.{Call, tier, load, steps, write, stop, lookState, lookStats, lookCounts, lookGroups, lookTable, lookPanel, lookTag}
 use Rattle.turns.specs.Contracts.{Asked, CreateMet, TierMet, LoadMet, WriteMet, StopMet, StepMet, StateMet, StatsMet, CountsMet, GroupsMet, TableMet, PanelMet, TagMet}

@@ -20,7 +20,8 @@ use Rattle.shown.specs.declared.head.StatsLook.{StatsLook}
 use Rattle.shown.specs.declared.counts.CountsLook.{CountsLook}
 use Rattle.shown.specs.declared.lists.ListLook.{ListLook}
 use Rattle.shown.specs.declared.tag.TagLook.{TagLook}
-use Rattle.capi.specs.Calls.{noTag, tierCheck, tiered, loadCheck, loaded, writeCheck, wrote, halted, answerOf}
+use Rattle.checks.specs.Calls.{noTag, tierCheck, loadCheck, writeCheck}
+use Rattle.capi.specs.Calls.{tiered, loaded, wrote, halted, answerOf}
 use Rattle.capi.specs.Looks.{groupCells, groupCount, tableCount, panelBytes, panelCount}
 
 -- A call of an entry point, with its arguments but the engine: numbers, and the bytes of each list that it is lent. `out` is a list that it may write.

@@ -14,7 +14,7 @@ use Rattle.shown.specs.declared.head.StatsLook.{StatsLook}
 use Rattle.shown.specs.declared.counts.CountsLook.{CountsLook}
 use Rattle.shown.specs.declared.lists.ListLook.{ListLook}
 use Rattle.shown.specs.declared.tag.TagLook.{TagLook}
-use Rattle.capi.specs.Creation.{Setup}
+use Rattle.checks.specs.Creation.{Setup}
 use Rattle.capi.proofs.creation.wz_create.Reads as create-contract
 use Rattle.capi.proofs.calls.wz_set_tier.Reads as tier-contract
 use Rattle.capi.proofs.calls.wz_load.Reads as load-contract

@@ -21,8 +21,9 @@ use Rattle.histories.specs.Histories.{Did, calls, answered, engines, Ready, Hap
 use Rattle.replies.specs.Worker.{Worker}
 use Rattle.replies.specs.Losing.{isEmpty}
 use Rattle.capi.specs.Memory.{workerIn}
-use Rattle.capi.specs.Calls.{tierCheck, loadCheck}
-use Rattle.capi.specs.Creation.{Setup, freshWorker}
+use Rattle.checks.specs.Calls.{tierCheck, loadCheck}
+use Rattle.checks.specs.Creation.{Setup}
+use Rattle.capi.specs.Creation.{freshWorker}
 use Rattle.turns.specs.Calls.{Call, tier, load, steps, write, stop, lookState, lookStats, lookCounts, lookGroups, lookTable, lookPanel, lookTag, Answer, toldBy, answer, after}
 use Rattle.turns.specs.Contracts.{CreateMet, Asked, Learnt}
 

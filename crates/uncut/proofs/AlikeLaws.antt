@@ -51,7 +51,7 @@ use Rattle.replies.specs.Worker.{Worker, At, Told, tell, asks, withBoard, phase
 use Rattle.replies.specs.Losing.{isEmpty, withoutWrites, failing, ended, backingOff, disconnected, staling, down, top}
 use Rattle.cycles.specs.Polling.{elapsed, remaining, polls, waiting, idle, tail, resume, writingOf, writing, checking, reading, roundAt, withWorked, worked, polled, poll, lastly, finished}
 use Rattle.worker.specs.Answers.{Answer, awaited, either, answers, contents, numberOf, versioned, connected, reconnecting, opened, openVersion, roundVersion, results, descriptions, written, readBack, backApplied, waited, backedOff, connectAnswered, taken, handled}
-use Rattle.capi.specs.Calls.{maxWrites}
+use Rattle.checks.specs.Calls.{maxWrites}
 use Rattle.uncut.specs.Uncut.{boardRoomed, roomed}
 use Rattle.turns.proofs.TierLaws.{settingsOf, map-kept, set-kept}
 use Rattle.uncut.proofs.FitLaws.{cut-same, pushed-same, ranks-few, Numbered, numbered-same, numbered-version, isGraced, fit-tags, Fits}

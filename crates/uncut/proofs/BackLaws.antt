@@ -37,8 +37,10 @@ use Rattle.replies.specs.Worker.{Worker, At, at, Told, tell, asks, withBoard, p
 use Rattle.replies.specs.Losing.{isEmpty, ended, backingOff, disconnected, staling, down, top}
 use Rattle.cycles.specs.Polling.{elapsed, remaining, polls, idle, tail, resume, writingOf, writing, checking, reading, roundAt, withWorked, polled, poll, lastly, finished}
 use Rattle.worker.specs.Answers.{Answer, numberOf, versioned, connected, reconnecting, opened, openVersion, roundVersion, results, descriptions, written, readBack, backApplied, waited, backedOff, taken, handled, clocked, stepped, step}
-use Rattle.capi.specs.Calls.{tierCheck, tiered, loadCheck, loaded, writeCheck, wrote, answerOf}
-use Rattle.capi.specs.Creation.{Setup, freshWorker}
+use Rattle.checks.specs.Calls.{tierCheck, loadCheck, writeCheck}
+use Rattle.capi.specs.Calls.{tiered, loaded, wrote, answerOf}
+use Rattle.checks.specs.Creation.{Setup}
+use Rattle.capi.specs.Creation.{freshWorker}
 use Rattle.histories.specs.Events.{Each}
 use Rattle.histories.specs.Histories.{atEach}
 use Rattle.turns.specs.Calls.{Call, tier, load, steps, write, stop, lookState, lookStats, lookCounts, lookGroups, lookTable, lookPanel, lookTag, after}

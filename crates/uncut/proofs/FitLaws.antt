@@ -31,7 +31,7 @@ use Rattle.settings.specs.declared.configured.Configured.{Configured}
 use Rattle.versions.specs.Versions.{tagTaken, takenAt, eachAt, tableTaken, versionTable, isChanged, takesSettings}
 use Rattle.versions.specs.declared.version.Version.{Version}
 use Rattle.board.specs.Board.{Board}
-use Rattle.capi.specs.Calls.{maxWrites}
+use Rattle.checks.specs.Calls.{maxWrites}
 use Rattle.uncut.specs.Uncut.{groupsRoomed}
 use Rattle.turns.proofs.TierLaws.{settingsOf}
 

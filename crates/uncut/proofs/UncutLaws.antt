@@ -45,9 +45,11 @@ use Rattle.replies.specs.Worker.{Worker, At, Told, tell, at, goesOn}
 use Rattle.cycles.specs.Polling.{waiting, writing, roundAt, polled, poll, lastly, finished}
 use Rattle.replies.specs.Reply as reply
 use Rattle.worker.specs.Answers.{Answer, contents, stepCheck, clocked, stepped, step}
-use Rattle.capi.specs.Calls.{clockCheck, noTag, tierCheck, tiered, loadCheck, writeCheck, writeOf, wrote, maxWrites, answerOf}
+use Rattle.checks.specs.Calls.{clockCheck, noTag, tierCheck, loadCheck, writeCheck, maxWrites}
+use Rattle.capi.specs.Calls.{tiered, writeOf, wrote, answerOf}
 use Rattle.capi.specs.Calls as calls
-use Rattle.capi.specs.Creation.{Setup, creationCheck, freshWorker}
+use Rattle.checks.specs.Creation.{Setup, creationCheck}
+use Rattle.capi.specs.Creation.{freshWorker}
 use Rattle.turns.specs.Calls.{Call, tier, load, steps, write, stop, lookState, lookStats, lookCounts, lookGroups, lookTable, lookPanel, lookTag, Answer as Said, accepted, answer, after}
 use Rattle.turns.specs.Demand.{Moment, moment}
 use Rattle.turns.specs.Once.{answeredTo}

@@ -7,7 +7,8 @@ use Rattle.results.specs.Results.{resultIn}
 use Rattle.heads.specs.declared.progress.Phase.the-variants.{ReadBack, OutcomeTold}
 use Rattle.histories.specs.Events.{Each}
 use Rattle.histories.specs.Histories.{atEach}
-use Rattle.capi.specs.Creation.{Setup, creationCheck, freshWorker}
+use Rattle.checks.specs.Creation.{Setup, creationCheck}
+use Rattle.capi.specs.Creation.{freshWorker}
 use Rattle.turns.specs.Calls.{Call, tier, load, steps, write, stop, lookState, lookStats, lookCounts, lookGroups, lookTable, lookPanel, lookTag, toldBy, after}
 use Rattle.turns.specs.Demand.{Moment, moment}
 

@@ -11,7 +11,8 @@ use Rattle.histories.specs.Events.{Each}
 use Rattle.histories.specs.Histories.{atEach}
 use Rattle.board.specs.Board.{factsOf, rowCells}
 use Rattle.replies.specs.Worker.{Worker}
-use Rattle.capi.specs.Creation.{Setup, creationCheck, freshWorker}
+use Rattle.capi.specs.Creation.{freshWorker}
+use Rattle.checks.specs.Creation.{Setup, creationCheck}
 use Rattle.capi.specs.Looks.{groupCells}
 use Rattle.turns.specs.Calls.{Call, tier, load, steps, write, stop, lookState, lookStats, lookCounts, lookGroups, lookTable, lookPanel, lookTag, Answer, listIs, answer, after}
 use Rattle.turns.specs.Demand.{Moment, moment}

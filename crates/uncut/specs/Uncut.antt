@@ -21,7 +21,8 @@ use Rattle.board.specs.Creation.{listRoom}
 use Rattle.replies.specs.Worker.{Worker, At, at, worker}
 use Rattle.cycles.specs.Polling.{roundAt}
 use Rattle.capi.specs.Calls.{answerOf}
-use Rattle.capi.specs.Creation.{Setup, creationCheck, freshWorker}
+use Rattle.checks.specs.Creation.{Setup, creationCheck}
+use Rattle.capi.specs.Creation.{freshWorker}
 use Rattle.turns.specs.Calls.{Call, tier, load, steps, write, stop, lookState, lookStats, lookCounts, lookGroups, lookTable, lookPanel, lookTag, toldBy, answer, after}
 use Rattle.turns.specs.Demand.{Moment, moment}
 use Rattle.turns.specs.Once.{answeredTo}

@@ -1,13 +1,13 @@
 -- `capi::calls::wz_load` meets its contract.
 use Rattle.capi.proofs.CallLaws.{alien-call, refused-call, done-call}
-use Rattle.capi.specs.Calls.{loadCheck}
+use Rattle.checks.specs.Calls.{loadCheck}
 use Rattle.capi.specs.Memory.{workerIn}
 use Rattle.replies.specs.Worker.{Worker, worker}
 use Rattle.board.specs.Board.{withTable}
 use Rattle.engine.specs.declared.Engine.{Engine}
 use Rattle.engine.specs.Engine.{withClock}
 use Rattle.panel.specs.Panel.{loadedList}
-use mathlib.Core.Path.{refl, ap, ap₂, sym, _∙_}
+use mathlib.Core.Path.{ap, sym, _∙_}
 use denote.Ref.{now}
 use borrow.Author.Needs.{needs}
 use Rattle.capi.proofs.calls.wz_load.Statement.{statement}

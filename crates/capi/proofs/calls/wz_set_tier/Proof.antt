@@ -1,14 +1,14 @@
 -- `capi::calls::wz_set_tier` meets its contract.
-use Rattle.capi.proofs.CallLaws.{alien-call, refused-call, done-call, tier-passed}
-use Rattle.capi.specs.Calls.{tierCheck}
+use Rattle.checks.proofs.Laws.{tier-passed}
+use Rattle.capi.proofs.CallLaws.{alien-call, refused-call, done-call}
+use Rattle.checks.specs.Calls.{tierCheck}
 use Rattle.capi.specs.Memory.{workerIn}
 use Rattle.replies.specs.Worker.{Worker, worker}
 use Rattle.board.specs.Board.{withTable}
 use Rattle.engine.specs.declared.Engine.{Engine}
 use Rattle.engine.specs.Engine.{withClock}
 use Rattle.tiers.specs.Tiers.{setTier}
-use native.Mathlib.Omega.{arith}
-use mathlib.Core.Path.{refl, ap, ap₂, sym, _∙_}
+use mathlib.Core.Path.{ap, sym, _∙_}
 use denote.Ref.{now}
 use borrow.Author.Needs.{needs}
 use Rattle.capi.proofs.calls.wz_set_tier.Statement.{statement}

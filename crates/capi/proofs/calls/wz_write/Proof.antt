@@ -1,12 +1,13 @@
 -- `capi::calls::wz_write` meets its contract.
 use Rattle.capi.proofs.Laws.{count-small}
 use native.Mathlib.Omega.{arith}
-use Rattle.capi.proofs.CallLaws.{alien-call, refused-call, done-call, write-passed}
-use Rattle.capi.specs.Calls.{writeCheck, wrote}
-use Rattle.words.specs.Value.{valueFrom}
+use Rattle.checks.proofs.Laws.{write-passed}
+use Rattle.capi.proofs.CallLaws.{alien-call, refused-call, done-call}
+use Rattle.checks.specs.Calls.{writeCheck}
+use Rattle.capi.specs.Calls.{wrote}
 use Rattle.capi.specs.Memory.{workerIn}
 use Rattle.values.specs.declared.value.Value.{Value}
-use mathlib.Core.Path.{refl, ap, sym, _∙_}
+use mathlib.Core.Path.{ap, sym, _∙_}
 use denote.Ref.{now}
 use borrow.Author.Needs.{needs}
 use Rattle.capi.proofs.calls.wz_write.Statement.{statement}

@@ -1,10 +1,8 @@
 -- `capi::creation::wz_create` meets its contract.
-use Rattle.capi.proofs.CallLaws.{alien-call, refused-call, done-call, few-names}
-use Rattle.capi.specs.Creation.{Setup, creationCheck, freshWorker}
-use Rattle.capi.specs.Memory.{workerIn}
+use Rattle.checks.proofs.Laws.{few-names}
+use Rattle.capi.proofs.CallLaws.{alien-call, refused-call, done-call}
 use Rattle.engine.specs.Engine.{freshEngine}
 use Rattle.replies.specs.Worker.{Worker, worker}
-use Rattle.engine.specs.declared.Engine.{Engine}
 use mathlib.Core.Path.{ap, ap₂, sym, _∙_}
 use denote.Ref.{now}
 use borrow.Author.Needs.{needs}

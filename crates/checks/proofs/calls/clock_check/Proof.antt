@@ -1,10 +1,10 @@
--- `capi::checks::clock_check` meets its contract.
+-- `checks::calls::clock_check` meets its contract.
 use mathlib.Core.Path.{sym, _∙_}
 use borrow.Author.Tests.{not-true, not-false}
-use Rattle.capi.specs.Calls.{clockCheck}
+use Rattle.checks.specs.Calls.{clockCheck}
 use borrow.Author.Needs.{needs}
-use Rattle.capi.proofs.checks.clock_check.Statement.{statement}
-use Rattle.capi.proofs.checks.clock_check.Tie as tie
+use Rattle.checks.proofs.calls.clock_check.Statement.{statement}
+use Rattle.checks.proofs.calls.clock_check.Tie as tie
 
 is-clock-requires : tie.Need-is-clock-requires
 is-clock-requires c κs = search needs

@@ -1,11 +1,12 @@
-// The checks of tier calls, loads and writes, in document 01's order.
+// Tier calls, loads and writes.
 ghost use mathlib.Core.Path.{_≡_};
 ghost use lib.ListN.{length};
-ghost use Rattle.board.specs.Board.{Board};
+ghost use Rattle.board.specs.Board.{Board, boardIn};
 ghost use Rattle.replies.specs.Worker.{worker};
-ghost use Rattle.capi.specs.Memory.{memorySize, workerIn};
-ghost use Rattle.capi.specs.Calls.{clockCheck, tierCheck, loadCheck, writeCheck};
-use super::whole::head_of;
+ghost use Rattle.board.specs.Regions.{boardSize};
+ghost use Rattle.checks.specs.Calls.{clockCheck, tierCheck, loadCheck, writeCheck};
+use board::calls::in_tiers;
+use board::queue::queued;
 use engine::Engine;
 use heads::link::State;
 use heads::link::is_state;
@@ -41,9 +42,9 @@ pub fn tier_check(e: Engine, clock: f64, tag: u32, tier: u32) -> u32
     0
 }
 
-pub fn load_check(mem: &[u8], e: Engine, clock: f64, list: &[u8]) -> u32
-    requires { ⌜ length (now mem) ≡ memorySize ⌝ }
-    ensures { λ r. ⌜ r ≡ loadCheck (worker e (workerIn (now (mem .entry)) .board)) clock (now (list .entry)) ⌝ }
+pub fn load_check(board: &[u8], e: Engine, clock: f64, list: &[u8]) -> u32
+    requires { ⌜ length (now board) ≡ boardSize ⌝ }
+    ensures { λ r. ⌜ r ≡ loadCheck (worker e (boardIn (now (board .entry)))) clock (now (list .entry)) ⌝ }
 {
     let n = clock_check(e, clock);
     if n != 0 {
@@ -53,17 +54,16 @@ pub fn load_check(mem: &[u8], e: Engine, clock: f64, list: &[u8]) -> u32
     if m != 0 {
         return m as u32;
     }
-    if board::calls::in_tiers(&mem[256..38400]) == 0 {
+    if in_tiers(board) == 0 {
         return 0;
     }
     56
 }
 
-pub fn write_check(mem: &[u8], tag: u32, value: Value) -> u32
-    requires { ⌜ length (now mem) ≡ memorySize ⌝ }
-    ensures { λ r. ⌜ r ≡ writeCheck (workerIn (now (mem .entry))) tag value ⌝ }
+pub fn write_check(board: &[u8], e: Engine, tag: u32, value: Value) -> u32
+    requires { ⌜ length (now board) ≡ boardSize ⌝ }
+    ensures { λ r. ⌜ r ≡ writeCheck (worker e (boardIn (now (board .entry)))) tag value ⌝ }
 {
-    let e = head_of(mem);
     if e.count as u32 <= tag {
         return 23;
     }
@@ -71,7 +71,7 @@ pub fn write_check(mem: &[u8], tag: u32, value: Value) -> u32
     if !is_state(link, State::Connected) {
         return 31;
     }
-    if 32 <= board::queue::queued(&mem[256..38400]) {
+    if 32 <= queued(board) {
         return 32;
     }
     if is_finite_value(value) {

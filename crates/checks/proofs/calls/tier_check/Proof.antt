@@ -1,10 +1,10 @@
--- `capi::checks::tier_check` meets its contract.
+-- `checks::calls::tier_check` meets its contract.
 use borrow.Author.Tests.{le-leb, lt-leb, le-ltb, lt-ltb}
-use Rattle.capi.specs.Calls.{tierCheck}
-use Rattle.capi.proofs.CallLaws.{first-refused, first-passed}
+use Rattle.checks.specs.Calls.{tierCheck}
+use Rattle.checks.proofs.Laws.{first-refused, first-passed}
 use borrow.Author.Needs.{needs}
-use Rattle.capi.proofs.checks.tier_check.Statement.{statement}
-use Rattle.capi.proofs.checks.tier_check.Tie as tie
+use Rattle.checks.proofs.calls.tier_check.Statement.{statement}
+use Rattle.checks.proofs.calls.tier_check.Tie as tie
 
 clock-check-requires : tie.Need-clock-check-requires
 clock-check-requires c κs = search needs

@@ -1,11 +1,11 @@
--- `capi::creation::creation_check` meets its contract.
+-- `checks::creation::creation_check` meets its contract.
 use mathlib.Core.Path.{sym, _∙_}
 use borrow.Author.Tests.{not-true, not-false}
-use Rattle.capi.specs.Creation.{creationCheck}
-use Rattle.capi.proofs.CallLaws.{first-refused, first-passed, settings-fail, groups-fail, both-pass}
+use Rattle.checks.specs.Creation.{creationCheck}
+use Rattle.checks.proofs.Laws.{first-refused, first-passed, settings-fail, groups-fail, both-pass}
 use borrow.Author.Needs.{needs}
-use Rattle.capi.proofs.creation.creation_check.Statement.{statement}
-use Rattle.capi.proofs.creation.creation_check.Tie as tie
+use Rattle.checks.proofs.creation.creation_check.Statement.{statement}
+use Rattle.checks.proofs.creation.creation_check.Tie as tie
 
 check-in-requires : tie.Need-check-in-requires
 check-in-requires c κs = search needs

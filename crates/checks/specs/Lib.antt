@@ -1,0 +1,3 @@
+-- The checks of calls.
+pub mod Calls
+pub mod Creation
