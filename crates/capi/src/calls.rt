@@ -16,15 +16,15 @@ use super::whole::push_write;
 use super::whole::put_clock;
 use super::whole::put_head;
 use super::whole::set_tier;
-use heads::link::stopped;
 use super::whole::write_check;
 use checks::calls::tier_check;
 use engine::with_link;
 use heads::link::stopped;
+use heads::link::stopped;
+use replies::reply::Reply;
 use replies::reply::Reply;
 use words::value::value_from;
 use worker::checks::Answer;
-use replies::reply::Reply;
 use writes::queue::Write;
 
 // A tier call.

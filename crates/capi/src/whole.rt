@@ -16,9 +16,9 @@ use engine::Engine;
 use engine::load;
 use engine::store;
 use replies::reply::Said;
+use replies::reply::Said;
 use values::value::Value;
 use worker::checks::Answer;
-use replies::reply::Said;
 use writes::queue::Write;
 
 // How many bytes an engine has, and the answer to memory of another length.

@@ -21,7 +21,9 @@ use Rattle.heads.specs.Stats.{readStats, tailStats}
 use Rattle.heads.specs.declared.progress.After.{After}
 use Rattle.heads.specs.declared.progress.After.the-variants.{Tail, Idle, End}
 use Rattle.heads.specs.declared.progress.Phase.the-variants.{Read, Describe, Version, Wait}
-use Rattle.board.specs.Board.{Board, withQueue, withPolled, describing, roundOf}
+use Rattle.board.specs.Board.{Board, withQueue}
+use Rattle.polls.specs.Polls.{withPolled, roundOf}
+use Rattle.talks.specs.Talks.{describing}
 use Rattle.replies.specs.Reply as reply
 use Rattle.replies.specs.Worker.{Worker, At, Told, Done, tell, asks, worker, withBoard, phased, tallied, goesOn}
 use Rattle.replies.specs.declared.reply.Said.{Said}

@@ -16,7 +16,8 @@ use Rattle.readings.specs.Listed.{Applying, AppliedAll, applyAll, inTagOrder}
 use Rattle.readings.specs.Stale.{tagStale, staledTags}
 use Rattle.slices.specs.Room.{fitted}
 use Rattle.board.specs.Regions.{regionsIn, part, boardSize}
-use Rattle.board.specs.Board.{Board, Changed, Changing, boardIn, boardOf, appliedTo, staledIn, changesIn}
+use Rattle.board.specs.Board.{Board, boardIn, boardOf}
+use Rattle.polls.specs.Polls.{Changed, Changing, appliedTo, staledIn, changesIn}
 use Rattle.board.proofs.Laws.{part-long}
 use Rattle.board.proofs.PartLaws.{records-put}
 use Rattle.polls.specs.Lending.{Listed}

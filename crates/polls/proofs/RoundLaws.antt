@@ -17,7 +17,8 @@ use Rattle.rounds.specs.declared.tick.Options.{Options}
 use Rattle.rounds.specs.declared.tick.Cycle.{Cycle}
 use Rattle.rounds.specs.declared.round.CycleTags.{CycleTags}
 use Rattle.board.specs.Regions.{Regions, regionsIn, part, boardSize}
-use Rattle.board.specs.Board.{Board, Worked, boardIn, boardOf, roundOf}
+use Rattle.board.specs.Board.{Board, boardIn, boardOf}
+use Rattle.polls.specs.Polls.{Worked, roundOf}
 use Rattle.board.proofs.Laws.{part-long, put-long, table-back, put-table, put-order, put-graces, put-asked, put-recorded, put-groups, putTable, putOrder, putGraces, putAsked, putRecorded, putGroups}
 use Rattle.polls.specs.Lending.{roundOn, RoundCall}
 

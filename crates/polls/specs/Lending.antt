@@ -12,7 +12,8 @@ use Rattle.rounds.specs.declared.tick.Options.{Options}
 use Rattle.rounds.specs.declared.tick.Cycle.{Cycle}
 use Rattle.rounds.specs.declared.round.CycleTags.{CycleTags}
 use Rattle.board.specs.Regions.{part}
-use Rattle.board.specs.Board.{Board, Changed}
+use Rattle.board.specs.Board.{Board}
+use Rattle.polls.specs.Polls.{Changed}
 use Rattle.board.specs.Lending.{tablePart, onlyTable}
 
 -- the round on the copies; its lists have the room of the one that is asked for

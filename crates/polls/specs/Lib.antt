@@ -1,2 +1,3 @@
 -- What polling does to the board.
+pub mod Polls
 pub mod Lending

@@ -2,7 +2,8 @@
 ghost use mathlib.Core.Path.{_≡_};
 ghost use lib.ListN.{length};
 ghost use Rattle.board.specs.Regions.{boardSize};
-ghost use Rattle.board.specs.Board.{boardIn, roundOf, Worked};
+ghost use Rattle.board.specs.Board.{boardIn};
+ghost use Rattle.polls.specs.Polls.{roundOf, Worked};
 ghost use Rattle.polls.specs.Lending.{roundOn, RoundCall};
 use board::parts::groups_of;
 use board::parts::part_of;

@@ -13,10 +13,10 @@ use frames::numbers::eight;
 use frames::numbers::four;
 use frames::parts::list_at;
 use replies::reply::Reply;
+use replies::reply::Reply;
 use words::scalar::float_of_word;
 use words::scalar::int_of_word;
 use words::scalar::word_of_float;
-use replies::reply::Reply;
 
 // Where the numbers of a frame stand: behind the operation and the lengths of the lent memory and list.
 const FIRST: usize = 9;

@@ -16,7 +16,8 @@ use Rattle.descriptions.specs.Descriptions.{askedTags, unwanted}
 use Rattle.versions.specs.Versions.{versionTable}
 use Rattle.versions.specs.declared.version.Version.{Version}
 use Rattle.board.specs.Regions.{regionsIn, part, boardSize}
-use Rattle.board.specs.Board.{Board, boardOf, boardIn, withAsked, withBack, withRecords, keptBack, describing}
+use Rattle.board.specs.Board.{Board, boardOf, boardIn, withAsked, withBack, withRecords}
+use Rattle.talks.specs.Talks.{keptBack, describing}
 use Rattle.board.proofs.Laws.{part-length, part-before}
 use Rattle.board.proofs.PartLaws.{asked-put, back-put, records-put}
 

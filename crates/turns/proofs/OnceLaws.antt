@@ -22,7 +22,7 @@ use Rattle.heads.specs.Stats.{readStats}
 use Rattle.heads.specs.declared.progress.Phase.the-variants.{Read, Version}
 use Rattle.heads.specs.declared.progress.After.{After}
 use Rattle.heads.specs.declared.progress.After.the-variants.{Tail, End}
-use Rattle.board.specs.Board.{describing}
+use Rattle.talks.specs.Talks.{describing}
 use Rattle.replies.specs.Worker.{Worker, At, at, Told, tell, asks, withBoard, phased, tallied, goesOn}
 use Rattle.replies.specs.Reply as reply
 use Rattle.replies.specs.Losing.{isEmpty}

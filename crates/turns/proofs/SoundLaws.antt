@@ -26,7 +26,7 @@ use Rattle.turns.proofs.RateLaws.{rated-same}
 use Rattle.turns.proofs.RoundLaws.{listed-round, round-long, round-settings, inside-round, tier2-left, none-ran-out, not-boundary, last-boundary, at-boundary}
 use Rattle.histories.specs.Events.{Event, quiet, retiered, took}
 use Rattle.histories.specs.Respects.{Respects}
-use Rattle.board.specs.Board.{pollingOf}
+use Rattle.polls.specs.Polls.{pollingOf}
 use Rattle.board.specs.Creation.{noNumbers}
 use Rattle.replies.specs.Worker.{Worker, At, Told}
 use Rattle.replies.specs.Losing.{isEmpty}

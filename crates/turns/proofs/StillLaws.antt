@@ -27,7 +27,9 @@ use Rattle.heads.specs.declared.progress.After.the-variants.{Tail, Idle, End}
 use Rattle.heads.specs.declared.progress.Phase.{Phase}
 use Rattle.heads.specs.declared.progress.Phase.the-variants.{Begin, Connect, OpenVersion, Version, Read, Describe, Write, ReadBack, Wait, Backoff, OpenFailedTold, OpenMetaTold, ConnectedTold, MetaTold, ValuesTold, InfoTold, RefusedTold, LostTold, OutcomeTold, BackTold, FailedTold, StaleTold, DisconnectedTold, ConnectingTold, Stopped}
 use Rattle.turns.proofs.TierLaws.{places, placeOf, map-kept}
-use Rattle.board.specs.Board.{withRecords, staledIn, appliedTo, describing}
+use Rattle.board.specs.Board.{withRecords}
+use Rattle.polls.specs.Polls.{staledIn, appliedTo}
+use Rattle.talks.specs.Talks.{describing}
 use Rattle.replies.specs.Reply as reply
 use Rattle.replies.specs.declared.reply.Reply.{Reply}
 use Rattle.replies.specs.Worker.{Worker, At, tell, asks, withBoard, phased, linked, tallied}

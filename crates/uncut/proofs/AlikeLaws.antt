@@ -44,7 +44,9 @@ use Rattle.heads.specs.declared.progress.After.{After}
 use Rattle.heads.specs.declared.progress.After.the-variants.{Tail, Idle, End}
 use Rattle.heads.specs.declared.progress.Phase.{Phase}
 use Rattle.heads.specs.declared.progress.Phase.the-variants.{Begin, Connect, OpenVersion, Version as AskVersion, Read, Describe, Write as AskWrite, ReadBack, Wait, Backoff, OpenFailedTold, OpenMetaTold, ConnectedTold, MetaTold, ValuesTold, InfoTold, RefusedTold, LostTold, OutcomeTold, BackTold, FailedTold, StaleTold, DisconnectedTold, ConnectingTold, Stopped}
-use Rattle.board.specs.Board.{Board, withRecords, withQueue, withAsked, keptBack, staledIn, appliedTo, describing, queuedTags, pollingOf}
+use Rattle.board.specs.Board.{Board, withRecords, withQueue, withAsked, queuedTags}
+use Rattle.polls.specs.Polls.{staledIn, appliedTo, pollingOf}
+use Rattle.talks.specs.Talks.{keptBack, describing}
 use Rattle.replies.specs.Reply as reply
 use Rattle.replies.specs.declared.reply.Reply.{Reply}
 use Rattle.replies.specs.Worker.{Worker, At, Told, tell, asks, withBoard, phased, linked, stated, tallied, goesOn}

@@ -39,7 +39,8 @@ use Rattle.lent.specs.Lent.{wroteAll, wroteCells}
 use Rattle.lent.proofs.LentLaws.{all-fits}
 use Rattle.histories.specs.Events.{Each}
 use Rattle.histories.specs.Histories.{atEach, answers, states}
-use Rattle.board.specs.Board.{Board, withTable, pollingOf}
+use Rattle.board.specs.Board.{Board, withTable}
+use Rattle.polls.specs.Polls.{pollingOf}
 use Rattle.board.specs.Creation.{freshBoard, freshWords, noNumbers, tagRoom, listRoom, configuredRoom}
 use Rattle.replies.specs.Worker.{Worker, At, Told, tell, at, goesOn}
 use Rattle.cycles.specs.Polling.{waiting, writing, roundAt, polled, poll, lastly, finished}

@@ -16,7 +16,8 @@ use Rattle.settings.specs.Configured.{givenGroups}
 use Rattle.lent.specs.Lent.{wroteAll, wroteCells}
 use Rattle.histories.specs.Events.{Each}
 use Rattle.histories.specs.Histories.{atEach, answers, states}
-use Rattle.board.specs.Board.{Board, pollingOf}
+use Rattle.board.specs.Board.{Board}
+use Rattle.polls.specs.Polls.{pollingOf}
 use Rattle.board.specs.Creation.{listRoom}
 use Rattle.replies.specs.Worker.{Worker, At, at, worker}
 use Rattle.cycles.specs.Polling.{roundAt}

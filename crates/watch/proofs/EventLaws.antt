@@ -6,7 +6,8 @@ use lib.ListN.{length, getD}
 use Rattle.lists.specs.Keep.{Below}
 use Rattle.names.specs.Directory.{maxNames}
 use Rattle.table.specs.Tag.{freshTag}
-use Rattle.board.specs.Board.{boardOf, boardIn, changesIn}
+use Rattle.board.specs.Board.{boardOf, boardIn}
+use Rattle.polls.specs.Polls.{changesIn}
 use Rattle.board.specs.Regions.{regionsIn}
 use Rattle.replies.specs.Worker.{Worker, tell}
 use Rattle.replies.specs.Reply.{values}

@@ -11,8 +11,8 @@ use capi::calls::wz_step;
 use capi::creation::wz_create;
 use changes::Change;
 use replies::reply::Reply;
-use worker::checks::Answer;
 use replies::reply::Reply;
+use worker::checks::Answer;
 
 // The bytes of an engine.
 const MEMORY: usize = 38400;

@@ -6,7 +6,8 @@ use Prim.Native.Nat.{ℕ}
 use lib.Dec.{eqb, eqb·suc-zero}
 use lib.ListN.{length}
 use Rattle.lent.specs.Lent.{wroteAll, records}
-use Rattle.board.specs.Board.{Board, boardIn, changesIn}
+use Rattle.board.specs.Board.{Board, boardIn}
+use Rattle.polls.specs.Polls.{changesIn}
 use Rattle.heads.specs.declared.progress.Phase.{Phase}
 use Rattle.engine.specs.declared.Engine.{Engine}
 use Rattle.heads.specs.declared.progress.Phase.{Phase}

@@ -22,7 +22,9 @@ use Rattle.heads.specs.declared.progress.After.{After}
 use Rattle.heads.specs.declared.progress.After.the-variants.{Tail, Idle, End}
 use Rattle.heads.specs.declared.progress.Phase.{Phase}
 use Rattle.heads.specs.declared.progress.Phase.the-variants.{Begin, Connect, OpenVersion, Version, Read, Describe, Write, ReadBack, Wait, Backoff, OpenFailedTold, OpenMetaTold, ConnectedTold, MetaTold, ValuesTold, InfoTold, RefusedTold, LostTold, OutcomeTold, BackTold, FailedTold, StaleTold, DisconnectedTold, ConnectingTold, Stopped}
-use Rattle.board.specs.Board.{boardIn, boardOf, withAsked, keptBack, describing, appliedTo, staledIn, changesIn}
+use Rattle.board.specs.Board.{boardIn, boardOf, withAsked}
+use Rattle.polls.specs.Polls.{appliedTo, staledIn, changesIn}
+use Rattle.talks.specs.Talks.{keptBack, describing}
 use Rattle.board.specs.Regions.{boardSize, regionsIn, part}
 use Rattle.board.proofs.Laws.{part-long}
 use Rattle.replies.specs.Reply as reply

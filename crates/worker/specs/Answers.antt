@@ -28,7 +28,9 @@ use Rattle.heads.specs.declared.link.State.the-variants.{Connecting, Connected}
 use Rattle.heads.specs.declared.progress.After.the-variants.{Tail, Idle, End}
 use Rattle.heads.specs.declared.progress.Phase.{Phase}
 use Rattle.heads.specs.declared.progress.Phase.the-variants.{Begin, Connect, OpenVersion, Version, Read, Describe, Write, ReadBack, Wait, Backoff, OpenFailedTold, OpenMetaTold, ConnectedTold, MetaTold, ValuesTold, InfoTold, RefusedTold, LostTold, OutcomeTold, BackTold, FailedTold, StaleTold, DisconnectedTold, ConnectingTold, Stopped}
-use Rattle.board.specs.Board.{Board, withRecords, withAsked, withBack, keptBack, Changed, appliedTo, changesIn}
+use Rattle.board.specs.Board.{Board, withRecords, withAsked, withBack}
+use Rattle.polls.specs.Polls.{Changed, appliedTo, changesIn}
+use Rattle.talks.specs.Talks.{keptBack}
 use Rattle.replies.specs.declared.reply.Said.{Said}
 use Rattle.replies.specs.Reply as reply
 use Rattle.replies.specs.Worker.{Worker, At, Told, Done, tell, asks, worker, withBoard, phased, linked, stated, tallied}

@@ -1,4 +1,4 @@
--- Rule 8: the tags of a read-back are named once, so rule 7's law `tag-order` holds for a read-back too.
+-- Rule 8: the tags of a read-back are named once.
 use mathlib.Core.Path.{_≡_, refl, sym, _∙_}
 use mathlib.Core.Bool.{Bool, true, false, cond}
 use mathlib.Core.List.{List, [], _∷_}
@@ -6,19 +6,10 @@ use Prim.Native.Nat.{ℕ, _+_, _-_, _≤_, _<_}
 use native.Mathlib.Omega.{arith}
 use borrow.Author.Tests.{eqb-true, ltb-true}
 use lib.Dec.{eqb, ltb}
-use lib.IntN.{ℤ}
-use lib.Ieee.{Float}
 use lib.ListN.{length, getD}
 use Rattle.lists.specs.Keep.{count}
-use Rattle.tags.specs.Lists.{listIn, room}
-use Rattle.table.specs.Table.{tableIn}
 use Rattle.ranks.specs.Ranks.{over, wordsOf}
 use Rattle.ranks.proofs.WordLaws.{word-differs}
-use Rattle.slices.specs.Room.{fitted}
-use Rattle.rounds.proofs.OnceLaws.{count-take}
-use Rattle.readings.specs.Listed.{AppliedAll}
-use Rattle.readings.specs.Order.{applyInOrder}
-use Rattle.readings.proofs.OrderLaws.{applied-in-order}
 use Rattle.writes.specs.ReadBack.{readBackTags}
 
 -- the word is another tag
@@ -38,14 +29,3 @@ read-back-once words k other j = go (ltb 1 (getD words k 0)) refl (eqb j k) refl
 pub directory-once : (old : List ℕ) (ns : List (List ℕ)) → length ns ≤ length old → length ns ≤ 65534 → (k : ℕ) → k < length ns
     → (j : ℕ) → count j (readBackTags (over old (wordsOf ns)) k) ≤ 1
 directory-once old ns few small k h = read-back-once (over old (wordsOf ns)) k (word-differs old ns few small k h)
-
--- Rules 7 and 8: the readings of a read-back are applied in tag order.
-pub read-back-in-order : (table sent changes tags results table' changes' : List ℕ) (start : Float) (t : ℤ) → AppliedAll table sent changes tags results start t false table' changes'
-    → (n : ℕ) (old : List ℕ) (ns : List (List ℕ)) → length ns ≤ length old → length ns ≤ 65534 → (k : ℕ) → k < length ns
-    → listIn tags ≡ fitted n (readBackTags (over old (wordsOf ns)) k) → length (listIn tags) ≤ room sent
-    → (tableIn table' ≡ applyInOrder results start t false (listIn tags) (tableIn table) .tags)
-    × (listIn changes' ≡ fitted (room changes) (applyInOrder results start t false (listIn tags) (tableIn table) .sent))
-read-back-in-order table sent changes tags results table' changes' start t a n old ns few small k h e fits =
-    applied-in-order start t false table sent changes tags results table' changes' a
-    (λ j. rw e (omega (arith, count-take j n (readBackTags (over old (wordsOf ns)) k), directory-once old ns few small k h j)))
-    fits

@@ -6,7 +6,8 @@ use lib.IntN.{ℤ}
 use mir.Val.{SFits}
 use mir.Syntax.{w64}
 use mir.Facts.{toZ-ofZ}
-use Rattle.board.specs.Board.{Board, boardIn, describing}
+use Rattle.board.specs.Board.{Board, boardIn}
+use Rattle.talks.specs.Talks.{describing}
 use Prim.Native.Nat.{ℕ}
 use lib.ListN.{length}
 use Rattle.lent.specs.Lent.{wroteAll}

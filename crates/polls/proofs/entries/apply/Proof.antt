@@ -7,7 +7,8 @@ use lib.ListN.{length-replicate}
 use mir.Syntax.{w64}
 use mir.ValLaws.{toZ-ofZ}
 use Rattle.tags.specs.Lists.{listIn}
-use Rattle.board.specs.Board.{Changed, boardIn, appliedTo}
+use Rattle.board.specs.Board.{boardIn}
+use Rattle.polls.specs.Polls.{Changed, appliedTo}
 use Rattle.polls.specs.Lending.{Listed}
 use Rattle.polls.proofs.EntryLaws.{told}
 use borrow.Author.Needs.{needs}

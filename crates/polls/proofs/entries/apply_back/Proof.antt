@@ -8,7 +8,8 @@ use lib.IntN.{ℤ}
 use mir.Syntax.{w64}
 use mir.ValLaws.{toZ-ofZ}
 use Rattle.board.specs.Regions.{regionsIn}
-use Rattle.board.specs.Board.{Changing, boardIn, boardOf, appliedTo}
+use Rattle.board.specs.Board.{boardIn, boardOf}
+use Rattle.polls.specs.Polls.{Changing, appliedTo}
 use borrow.Author.Needs.{needs}
 use Rattle.polls.proofs.entries.apply_back.Statement.{statement}
 use Rattle.polls.proofs.entries.apply_back.Tie as tie

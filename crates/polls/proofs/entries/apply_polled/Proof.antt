@@ -5,7 +5,8 @@ use denote.Ref.{now}
 use lib.IntN.{ℤ}
 use mir.Syntax.{w64}
 use mir.ValLaws.{toZ-ofZ}
-use Rattle.board.specs.Board.{Changing, boardIn, appliedTo}
+use Rattle.board.specs.Board.{boardIn}
+use Rattle.polls.specs.Polls.{Changing, appliedTo}
 use borrow.Author.Needs.{needs}
 use Rattle.polls.proofs.entries.apply_polled.Statement.{statement}
 use Rattle.polls.proofs.entries.apply_polled.Tie as tie

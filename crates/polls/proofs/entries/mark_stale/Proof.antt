@@ -4,7 +4,8 @@ use Prim.Native.Nat.{ℕ}
 use denote.Ref.{now}
 use lib.ListN.{length-replicate}
 use Rattle.tags.specs.Lists.{listIn}
-use Rattle.board.specs.Board.{boardIn, staledIn}
+use Rattle.board.specs.Board.{boardIn}
+use Rattle.polls.specs.Polls.{staledIn}
 use Rattle.polls.proofs.EntryLaws.{told}
 use borrow.Author.Needs.{needs}
 use Rattle.polls.proofs.entries.mark_stale.Statement.{statement}

@@ -6,7 +6,8 @@ use Rattle.lent.specs.Lent.{records, wroteAll}
 use Prim.Native.Nat.{ℕ}
 use denote.Ref.{now}
 use lib.ListN.{length}
-use Rattle.board.specs.Board.{boardIn, staledIn, changesIn}
+use Rattle.board.specs.Board.{boardIn}
+use Rattle.polls.specs.Polls.{staledIn, changesIn}
 use Rattle.heads.specs.declared.progress.Phase.the-variants.{StaleTold}
 use Rattle.replies.specs.Reply as reply
 use Rattle.replies.specs.Worker.{Told, worker, tell, phased}

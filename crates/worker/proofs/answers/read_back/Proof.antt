@@ -5,7 +5,8 @@ use lib.Dec.{eqb}
 use denote.Ref.{now}
 use Rattle.values.specs.declared.value.Value.the-variants.{Null}
 use Rattle.writes.specs.ReadBack.{readBackFirst}
-use Rattle.board.specs.Board.{boardIn, keptBack}
+use Rattle.board.specs.Board.{boardIn}
+use Rattle.talks.specs.Talks.{keptBack}
 use Rattle.heads.specs.declared.progress.Phase.the-variants.{LostTold, OutcomeTold}
 use Rattle.replies.specs.Reply as reply
 use Rattle.replies.specs.Worker.{worker, saidIn, asks}

@@ -8,7 +8,8 @@ use denote.Ref.{now}
 use lib.IntN.{ℤ}
 use mir.Syntax.{w64}
 use mir.ValLaws.{toZ-ofZ}
-use Rattle.board.specs.Board.{Board, boardIn, Changing, appliedTo, changesIn}
+use Rattle.board.specs.Board.{Board, boardIn}
+use Rattle.polls.specs.Polls.{Changing, appliedTo, changesIn}
 use Rattle.heads.specs.declared.progress.Phase.the-variants.{ValuesTold}
 use Rattle.replies.specs.Reply as reply
 use Rattle.replies.specs.Worker.{worker, at, phased, saidIn, tell}

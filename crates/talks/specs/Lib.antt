@@ -1,0 +1,2 @@
+-- Read-backs and descriptions.
+pub mod Talks
