@@ -1,4 +1,3 @@
--- For callers: `ListLaws` (what a list is, and what each function makes of it), `CollectLaws` (loops that collect). Below them: `RemoveLaws`.
+-- For callers: `ListLaws` (what a list is, and what each function makes of it), `CollectLaws` (loops that collect).
 pub mod CollectLaws
 pub mod ListLaws
-pub mod RemoveLaws

@@ -1,11 +1,9 @@
 -- A list of tag numbers in memory: the first half is the count, and the halves after it are the places.
-use mathlib.Core.Path.{_≡_}
 use mathlib.Core.Bool.{Bool, true, false, cond}
 use mathlib.Core.List.{List, [], _∷_, _++_}
-use Prim.Native.Nat.{ℕ, _-_, _/_, _<_, min}
+use Prim.Native.Nat.{ℕ, _-_, _/_, min}
 use lib.Dec.{eqb, ltb, leb}
 use lib.ListN.{length, getD, take, drop}
-use Rattle.lists.specs.Keep.{count}
 use Rattle.memory.specs.Halves.{halvesIn}
 
 -- a count above the places there are stands for all of them
@@ -30,8 +28,3 @@ insertedAt n p k xs = cond (leb p (length xs)) (cond (ltb (length xs) n) (take p
 abbrev pub member : ℕ → List ℕ → Bool
 member k [] = false
 member k (x ∷ xs) = cond (eqb k x) true (member k xs)
-
--- how many places hold k, and, where it is one, which
-pub record Placed (k : ℕ) (xs : List ℕ) (hits sum : ℕ) : Type 0 where
-  pub counted : hits ≡ count k xs
-  pub once : hits ≡ 1 → (sum < length xs) × (getD xs sum 0 ≡ k)

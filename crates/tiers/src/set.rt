@@ -13,9 +13,9 @@ use fields::put_standing;
 use fields::tier_of;
 use fields::wants_of;
 use memory::halves::half;
+use removal::remove;
 use table::tag::Grace;
 use tags::push;
-use tags::remove;
 
 // The tests below do not branch, as the tiers of calls follow no order that a processor could foresee.
 fn added_set(old: u8, added: bool, tier: u8) -> bool

@@ -14,9 +14,10 @@ use lib.Seq.{take-all, take-suc, length-take-le, getD-take, getD-set-same, getD-
 use Rattle.lists.specs.Keep.{keep, without, count}
 use Rattle.lists.proofs.KeepLaws.{count-append}
 use Rattle.memory.specs.Halves.{halvesIn}
-use Rattle.tags.specs.Lists.{listIn, Placed}
 use Rattle.memory.proofs.HalfLaws.{length-halves, halves-at}
+use Rattle.tags.specs.Lists.{listIn}
 use Rattle.tags.proofs.ListLaws.{places, length-places, place-at, length-list, list-short, list-at, recount}
+use Rattle.removal.specs.Places.{Placed}
 
 -- ---- any list
 

@@ -1,4 +1,4 @@
--- `tags::remove_each` meets its contract.
+-- `removal::remove_each` meets its contract.
 use borrow.Author.Needs.{needs}
 use mathlib.Core.Path.{_≡_, refl, ap, sym, _∙_}
 use mathlib.Core.Logic.{⊎-elim}
@@ -9,9 +9,10 @@ use denote.Ref.{now}
 use lib.ListN.{length, set}
 use Rattle.memory.specs.Halves.{halvesIn}
 use Rattle.memory.proofs.HalfLaws.{half-small, halves-same}
-use Rattle.tags.proofs.ListLaws.{list-half, list-place, Removing, removing-none, removing-read, removing-yes, removing-no, removing-all}
-use Rattle.tags.proofs.remove_each.Statement.{statement}
-use Rattle.tags.proofs.remove_each.Tie as tie
+use Rattle.tags.proofs.ListLaws.{list-half, list-place}
+use Rattle.removal.proofs.EachLaws.{Removing, removing-none, removing-read, removing-yes, removing-no, removing-all}
+use Rattle.removal.proofs.remove_each.Statement.{statement}
+use Rattle.removal.proofs.remove_each.Tie as tie
 
 abbrev Inv-loop : tie.InvT-loop
 Inv-loop s₀ k n j₀ i₀ s j i = (i ≤ n) × ((j ≤ i) × ((length s ≡ length s₀) × Removing k i j (halvesIn s₀) (halvesIn s)))

@@ -1,11 +1,11 @@
--- `tags::remove` meets its contract.
+-- `removal::remove` meets its contract.
 use mathlib.Core.Path.{sym, _∙_}
 use denote.Ref.{now}
 use Rattle.tags.specs.Lists.{listIn}
-use Rattle.tags.proofs.RemoveLaws.{without-none, without-once}
+use Rattle.removal.proofs.RemoveLaws.{without-none, without-once}
 use borrow.Author.Needs.{needs}
-use Rattle.tags.proofs.remove.Statement.{statement}
-use Rattle.tags.proofs.remove.Tie as tie
+use Rattle.removal.proofs.remove.Statement.{statement}
+use Rattle.removal.proofs.remove.Tie as tie
 
 places-of-requires : tie.Need-places-of-requires
 places-of-requires c κs = search needs

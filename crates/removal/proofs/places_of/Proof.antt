@@ -1,4 +1,4 @@
--- `tags::places_of` meets its contract.
+-- `removal::places_of` meets its contract.
 use mathlib.Core.Path.{_∙_}
 use mathlib.Core.Logic.{⊎-elim}
 use Prim.Native.Nat.{_-_, _≤_, _<_}
@@ -6,12 +6,12 @@ use native.Mathlib.Omega.{arith}
 use denote.Ref.{now}
 use lib.Dec.{eqb}
 use lib.ListN.{length}
 use Rattle.tags.specs.Lists.{listIn}
 use Rattle.tags.proofs.ListLaws.{list-half, list-at, list-short}
-use Rattle.tags.proofs.RemoveLaws.{one-hit, Placing, placing-none, placing-yes, placing-no, placing-all}
+use Rattle.removal.proofs.RemoveLaws.{one-hit, Placing, placing-none, placing-yes, placing-no, placing-all}
 use borrow.Author.Needs.{needs}
-use Rattle.tags.proofs.places_of.Statement.{statement}
-use Rattle.tags.proofs.places_of.Tie as tie
+use Rattle.removal.proofs.places_of.Statement.{statement}
+use Rattle.removal.proofs.places_of.Tie as tie
 
 abbrev Inv-loop : tie.InvT-loop
 Inv-loop s k n hits₀ sum₀ i₀ hits sum i = (i ≤ n) × Placing k (listIn s) i hits sum

@@ -1,13 +1,13 @@
--- `tags::remove_at` meets its contract.
+-- `removal::remove_at` meets its contract.
 use mathlib.Core.Path.{_∙_}
 use Prim.Native.Nat.{_+_, _*_, _-_, _≤_}
 use native.Mathlib.Omega.{arith}
 use denote.Ref.{now}
 use Rattle.tags.proofs.ListLaws.{list-short}
-use Rattle.tags.proofs.RemoveLaws.{Closing, closing-none, closing-more, closing-all}
+use Rattle.removal.proofs.RemoveLaws.{Closing, closing-none, closing-more, closing-all}
 use borrow.Author.Needs.{needs}
-use Rattle.tags.proofs.remove_at.Statement.{statement}
-use Rattle.tags.proofs.remove_at.Tie as tie
+use Rattle.removal.proofs.remove_at.Statement.{statement}
+use Rattle.removal.proofs.remove_at.Tie as tie
 
 abbrev Inv-loop : tie.InvT-loop
 Inv-loop s₀ p n end i₀ s i = (2 * p + 2 ≤ i) × Closing p i s₀ s
