@@ -2,11 +2,11 @@
 use mathlib.Core.Path.{_≡_, refl, ap, sym, _∙_}
 use mathlib.Core.List.{List, _++_}
 use Prim.Native.Nat.{ℕ, _+_, _*_, _/_, _%_, _≤_, _<_, _^_}
-use native.Mathlib.Nat.{div-div-eq-div-mul, div-add-mod', add-zero, mod-mod}
+use native.Mathlib.Nat.{div-div-eq-div-mul, div-add-mod', add-assoc, add-zero, mod-mod}
 use native.Mathlib.Omega.{arith}
 use lib.ListN.{length, getD, set, drop, List·getD-append, List·getD-eq-default}
 use lib.Seq.{sets, length-sets, getD-drop, set-out}
-use Rattle.memory.specs.Cells.{bytesOf, wordAt, words, cellsIn}
+use Rattle.memory.specs.Cells.{bytesOf, quadAt, wordAt, words, cellsIn}
 use Rattle.memory.proofs.BlockLaws.{length-blocks, blocks-at, blocks-sets}
 
 -- eight digits, plain numbers
@@ -43,6 +43,9 @@ word-within a b h =
 
 word-drop : (bs : List ℕ) (k : ℕ) → wordAt (drop k bs) 0 ≡ wordAt bs k
 word-drop bs k = simp (getD-drop, add-zero)
+
+pub word-quads : (bs : List ℕ) (at : ℕ) → quadAt bs at + quadAt bs (at + 4) * 0x1_0000_0000 ≡ wordAt bs at
+word-quads bs at = rw (add-assoc at 4 1, add-assoc at 4 2, add-assoc at 4 3) refl
 
 pub length-cells : (bs : List ℕ) → length (cellsIn bs) ≡ length bs / 8
 unfolding cellsIn

@@ -7,6 +7,9 @@ use Rattle.memory.specs.Blocks.{blocks, byteAt}
 abbrev pub bytesOf : ℕ → List ℕ
 bytesOf v = v % 256 ∷ v / 0x100 % 256 ∷ v / 0x1_0000 % 256 ∷ v / 0x100_0000 % 256 ∷ v / 0x1_0000_0000 % 256 ∷ v / 0x100_0000_0000 % 256 ∷ v / 0x1_0000_0000_0000 % 256 ∷ v / 0x100_0000_0000_0000 % 256 ∷ []
 
+abbrev pub quadAt : List ℕ → ℕ → ℕ
+quadAt s at = byteAt s at + byteAt s (at + 1) * 0x100 + byteAt s (at + 2) * 0x1_0000 + byteAt s (at + 3) * 0x100_0000
+
 abbrev pub wordAt : List ℕ → ℕ → ℕ
 wordAt s at =
     (byteAt s at + byteAt s (at + 1) * 0x100 + byteAt s (at + 2) * 0x1_0000 + byteAt s (at + 3) * 0x100_0000)

@@ -1,8 +1,8 @@
 // Numbers as bytes, the low byte first.
 ghost use mathlib.Core.Path.{_≡_};
-ghost use Prim.Native.Nat.{_<_, _/_, _%_};
+ghost use Prim.Native.Nat.{_+_, _<_, _/_, _%_};
 ghost use lib.ListN.{length, getD, set};
-ghost use Rattle.memory.specs.Cells.{cellsIn};
+ghost use Rattle.memory.specs.Cells.{quadAt, cellsIn};
 ghost use Rattle.memory.specs.Halves.{halvesIn};
 
 fn wide(x: u8) -> u64
@@ -11,19 +11,24 @@ fn wide(x: u8) -> u64
     x as u64
 }
 
+// The four bytes from `at` on.
+fn quad(s: &[u8], at: usize) -> u64
+    requires { ⌜ at + 3 < length (now s) ⌝ }
+    ensures { λ r. ⌜ (r ≡ quadAt (now (s .entry)) at) × (r < 0x1_0000_0000) ⌝ }
+{
+    wide(s[at])
+        + wide(s[at + 1]) * 0x100
+        + wide(s[at + 2]) * 0x1_0000
+        + wide(s[at + 3]) * 0x100_0000
+}
+
 pub fn word(s: &[u8], i: usize) -> u64
     requires { ⌜ i < length (now s) / 8 ⌝ }
     ensures { λ r. ⌜ r ≡ getD (cellsIn (now (s .entry))) i 0 ⌝ }
 {
     let at = 8 * i;
-    let a = wide(s[at])
-        + wide(s[at + 1]) * 0x100
-        + wide(s[at + 2]) * 0x1_0000
-        + wide(s[at + 3]) * 0x100_0000;
-    let b = wide(s[at + 4])
-        + wide(s[at + 5]) * 0x100
-        + wide(s[at + 6]) * 0x1_0000
-        + wide(s[at + 7]) * 0x100_0000;
+    let a = quad(s, at);
+    let b = quad(s, at + 4);
     a + b * 0x1_0000_0000
 }
 
