@@ -1,9 +1,11 @@
 // What cases have in common: tags entered, settings, results, readings and rounds.
+use super::print::asked;
 use memory::cells::put_cell;
 use rounds::tick::Cycle;
 use rounds::tick::Options;
 use tags::contains;
 use tags::push;
+use tiers::grace::set_tier;
 use values::error::Error;
 use values::error::ErrorKind;
 use values::error::TagError;
@@ -18,10 +20,25 @@ pub fn first() -> Cycle {
     }
 }
 
-// A tier call without a grace.
-pub fn enter(table: &mut [u8], order: &mut [u8], words: &[u8], k: u16, tier: u8) {
+// A tier call without a grace, for a tag that is no bit.
+pub fn enter_in(table: &mut [u8], order: &mut [u8], k: u16, tier: u8) {
     let mut graces = [0u8; 16];
-    tiers::grace::set_tier(table, order, &mut graces, words, k, tier, 0.0, 0.0);
+    set_tier(table, order, &mut graces, &[0u8; 16], k, tier, 0.0, 0.0);
+}
+
+// Likewise, where nothing asks for the order in which tags entered.
+pub fn enter(table: &mut [u8], k: u16, tier: u8) {
+    let mut order = [0u8; 4];
+    enter_in(table, &mut order, k, tier);
+}
+
+// Two cells, at 2 i and behind it.
+pub fn put_pair(s: &mut [u8], i: usize, a: u64, b: u64) {
+    if 128 <= i {
+        return;
+    }
+    put_cell(s, 2 * i, a);
+    put_cell(s, 2 * i + 1, b);
 }
 
 // The setting of tag k; `group` is 0 for none, and otherwise the group's number and 1.
@@ -36,10 +53,13 @@ pub fn put_setting(
     if 64 <= k {
         return;
     }
-    put_cell(settings, 4 * k, words::scalar::word_of_float(band));
-    put_cell(settings, 4 * k + 1, group);
-    put_cell(settings, 4 * k + 2, rate);
-    put_cell(settings, 4 * k + 3, words::scalar::word_of_flag(described));
+    put_pair(settings, 2 * k, words::scalar::word_of_float(band), group);
+    put_pair(
+        settings,
+        2 * k + 1,
+        rate,
+        words::scalar::word_of_flag(described),
+    );
 }
 
 pub fn put_value(results: &mut [u8], i: usize, v: Value) {
@@ -47,10 +67,8 @@ pub fn put_value(results: &mut [u8], i: usize, v: Value) {
         return;
     }
     let w = words::value::value_words(v);
-    put_cell(results, 4 * i, w.kind);
-    put_cell(results, 4 * i + 1, w.word);
-    put_cell(results, 4 * i + 2, 0);
-    put_cell(results, 4 * i + 3, 0);
+    put_pair(results, 2 * i, w.kind, w.word);
+    put_pair(results, 2 * i + 1, 0, 0);
 }
 
 // The value stays as it is, and does not count.
@@ -63,16 +81,14 @@ pub fn put_error(results: &mut [u8], i: usize, kind: ErrorKind, message: u32) {
         message: message,
     });
     let w = words::error::error_words(e);
-    put_cell(results, 4 * i + 2, w.kind);
-    put_cell(results, 4 * i + 3, w.message);
+    put_pair(results, 2 * i + 1, w.kind, w.message);
 }
 
-// The result of tag 0 applied; whether it is sent.
+// The result of tag 0 applied; whether it is sent. A list of tags is their count and then each, in two bytes.
 pub fn apply_first(table: &mut [u8], results: &[u8], start: f64, t: i64, polled: bool) -> bool {
-    let mut tags = [0u8; 4];
+    let tags = [1u8, 0, 0, 0];
     let mut sent = [0u8; 4];
     let mut changes = [0u8; 4];
-    push(&mut tags, 0);
     readings::listed::apply(
         table,
         &mut sent,
@@ -145,20 +161,19 @@ pub fn round(
     r.cycle
 }
 
-// Whether a first round asks for tag 0.
-pub fn is_asked(table: &mut [u8], order: &mut [u8], clock: f64) -> bool {
+// A first round; prints whether it asks for tag 0.
+pub fn ask_first(label: &[u8], table: &mut [u8], order: &mut [u8], clock: f64) {
     let mut groups = [0u8; 256];
     let mut recorded = [0u8; 4];
     let mut list = [0u8; 16];
-    let c = first();
     round(
         table,
         order,
         &mut groups,
         &mut recorded,
         &mut list,
-        c,
+        first(),
         clock,
     );
-    contains(&list, 0)
+    asked(label, contains(&list, 0));
 }

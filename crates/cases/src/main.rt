@@ -1,4 +1,5 @@
 // Cases of rules 7, 8, 10 and 11 and of checks 14 and 42, run through the code: each line has a case and what came out.
+// A line is ended by what is printed after it.
 mod checks; // 14 and 42
 mod given; // what cases have in common: tags entered, readings, rounds
 mod print;
@@ -13,4 +14,5 @@ fn main() {
     rule10::run();
     rule11::run();
     checks::run();
+    print::text(b"\n");
 }

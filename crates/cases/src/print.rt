@@ -1,8 +1,9 @@
-// What the cases print.
+// What the cases print, each with a label before it.
 use libc::STDOUT_FILENO;
 use table::tag::Description;
 use tags::at;
 use tags::count;
+use values::entry::Entry;
 use values::entry::Held;
 use values::entry::Quality;
 use values::error::Error;
@@ -12,12 +13,13 @@ pub fn text(s: &[u8]) {
     io::write_all(STDOUT_FILENO, s);
 }
 
-pub fn number(n: u64) {
+pub fn number(label: &[u8], n: u64) {
+    text(label);
     io::print_decimal(STDOUT_FILENO, n);
 }
 
 // One of two words.
-pub fn either(b: bool, yes: &[u8], no: &[u8]) {
+fn either(b: bool, yes: &[u8], no: &[u8]) {
     if b {
         text(yes);
     } else {
@@ -25,18 +27,29 @@ pub fn either(b: bool, yes: &[u8], no: &[u8]) {
     }
 }
 
-pub fn asked(b: bool) {
+pub fn asked(label: &[u8], b: bool) {
+    text(label);
     either(b, b"asked", b"dropped");
 }
 
-pub fn sent(b: bool) {
+pub fn sent(label: &[u8], b: bool) {
+    text(label);
     either(b, b"sent", b"withheld");
+}
+
+pub fn reload(label: &[u8], b: bool) {
+    text(label);
+    either(b, b"reload", b"no reload");
+}
+
+pub fn accepted(label: &[u8], b: bool) {
+    text(label);
+    either(b, b"accepted", b"refused");
 }
 
 // A number with a space before it.
 pub fn next(n: u64) {
-    text(b" ");
-    number(n);
+    number(b" ", n);
 }
 
 fn each(list: &[u8]) {
@@ -49,7 +62,8 @@ fn each(list: &[u8]) {
 }
 
 // The tags of a list.
-pub fn tags(list: &[u8]) {
+pub fn tags(label: &[u8], list: &[u8]) {
+    text(label);
     if count(list) == 0 {
         text(b" none");
     }
@@ -60,7 +74,8 @@ fn wide(x: u8) -> u64 {
     x as u64
 }
 
-pub fn bytes(s: &[u8]) {
+pub fn bytes(label: &[u8], s: &[u8]) {
+    text(label);
     let mut i: usize = 0;
     while i < s.len() {
         next(wide(s[i]));
@@ -71,27 +86,27 @@ pub fn bytes(s: &[u8]) {
 // With two places behind the point.
 fn float(x: f64) {
     let n = ieee::round::to_u64(ieee::round::round_ties_even(x * 100.0));
-    number(n / 100);
-    text(b".");
-    number(n / 10 % 10);
-    number(n % 10);
+    number(b"", n / 100);
+    number(b".", n / 10 % 10);
+    number(b"", n % 10);
 }
 
-pub fn value(v: Value) {
+pub fn value(label: &[u8], v: Value) {
+    text(label);
     match v {
         Value::Null => text(b"null"),
         Value::Bool(b) => either(b, b"true", b"false"),
-        Value::Int(n) => number(words::scalar::word_of_int(n)),
+        Value::Int(n) => number(b"", words::scalar::word_of_int(n)),
         Value::Float(x) => float(x),
     }
 }
 
 fn quality(q: Quality) {
     match q {
-        Quality::Good => text(b"good "),
-        Quality::Bad => text(b"bad "),
-        Quality::Missing => text(b"missing "),
-        Quality::Stale => text(b"stale "),
+        Quality::Good => text(b"good"),
+        Quality::Bad => text(b"bad"),
+        Quality::Missing => text(b"missing"),
+        Quality::Stale => text(b"stale"),
     }
 }
 
@@ -102,32 +117,34 @@ fn error(e: Error) {
         return;
     };
     let kind = x.kind;
-    text(b", error ");
-    number(values::error::kind_number(kind) as u64);
-    text(b":");
-    number(x.message as u64);
+    number(b", error ", values::error::kind_number(kind) as u64);
+    number(b":", x.message as u64);
 }
 
-// Quality, value, wall time and error of an entry.
-pub fn held(h: Held) {
-    let Held::Is(e) = h else {
-        text(b"nothing");
-        return;
-    };
+// Quality, value, wall time and error.
+fn entry(e: Entry) {
     let q = e.quality;
-    quality(q);
     let v = e.value;
-    value(v);
-    text(b" at ");
-    number(words::scalar::word_of_int(e.t));
     let f = e.error;
+    quality(q);
+    value(b" ", v);
+    number(b" at ", words::scalar::word_of_int(e.t));
     error(f);
 }
 
-pub fn description(d: Description) {
+pub fn held(label: &[u8], h: Held) {
+    text(label);
+    match h {
+        Held::None => text(b"nothing"),
+        Held::Is(e) => entry(e),
+    }
+}
+
+pub fn description(label: &[u8], d: Description) {
+    text(label);
     match d {
         Description::Unknown => text(b"unknown"),
         Description::Nothing => text(b"none"),
-        Description::Is(n) => number(n as u64),
+        Description::Is(n) => number(b"", n as u64),
     }
 }

@@ -16,20 +16,8 @@ abbrev μ-loop : tie.MeasureT-loop
 loop-holds : tie.Need-loop-holds Inv-loop μ-loop
 loop-holds c = refl
 
-mul-put-cell : tie.Need-mul-put-cell Inv-loop μ-loop
-mul-put-cell c = omega arith
-
-put-cell-requires : tie.Need-put-cell-requires Inv-loop μ-loop
-put-cell-requires c κs = search needs
-
-mul-put-cell-2 : tie.Need-mul-put-cell-2 Inv-loop μ-loop
-mul-put-cell-2 c = omega arith
-
-add-put-cell : tie.Need-add-put-cell Inv-loop μ-loop
-add-put-cell c = omega arith
-
-put-cell-requires-2 : tie.Need-put-cell-requires-2 Inv-loop μ-loop
-put-cell-requires-2 c κs = search needs
+put-pair-requires : tie.Need-put-pair-requires Inv-loop μ-loop
+put-pair-requires c κs = search needs
 
 add-i : tie.Need-add-i Inv-loop μ-loop
 add-i c = omega arith
@@ -53,11 +41,7 @@ fill-groups-spec =
     Inv-loop
     μ-loop
     loop-holds
-    mul-put-cell
-    put-cell-requires
-    mul-put-cell-2
-    add-put-cell
-    put-cell-requires-2
+    put-pair-requires
     add-i
     loop-less
     loop-again

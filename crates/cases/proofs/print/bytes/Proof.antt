@@ -8,10 +8,13 @@ use Rattle.cases.proofs.print.bytes.Statement.{statement}
 use Rattle.cases.proofs.print.bytes.Tie as tie
 
 abbrev Inv-loop : tie.InvT-loop
-Inv-loop s i₀ i = i ≤ length s
+Inv-loop label s i₀ i = i ≤ length s
 
 abbrev μ-loop : tie.MeasureT-loop
-μ-loop s i₀ i = length s - i
+μ-loop label s i₀ i = length s - i
+
+text-requires : tie.Need-text-requires Inv-loop μ-loop
+text-requires c κs = search needs
 
 loop-holds : tie.Need-loop-holds Inv-loop μ-loop
 loop-holds c = omega arith
@@ -43,6 +46,7 @@ bytes-spec =
     (tie.spec
     Inv-loop
     μ-loop
+    text-requires
     loop-holds
     shared-slice-read-wide
     wide-requires
