@@ -2,7 +2,9 @@
 ghost use mathlib.Core.List.{map};
 ghost use mathlib.Core.Path.{_≡_};
 ghost use lib.ListN.{length, take};
-ghost use Rattle.descriptions.specs.Descriptions.{learnt, learntNone};
+ghost use Rattle.memory.specs.Halves.{halvesIn};
+ghost use Rattle.slices.specs.Room.{fitted};
+ghost use Rattle.descriptions.specs.Descriptions.{askedTags, unwanted, learnt, learntNone};
 ghost use Rattle.versions.specs.Versions.{versionTable};
 ghost use Rattle.writes.specs.ReadBack.{readBackTags};
 ghost use Rattle.board.specs.Regions.{boardSize};
@@ -31,15 +33,31 @@ pub fn keep_back(board: &mut [u8], results: &[u8])
     lent::put_bytes(&mut board[0..256], results);
 }
 
+// The descriptions that are wanted are asked for.
+fn ask_wanted(board: &mut [u8])
+    requires { ⌜ length (now board) ≡ boardSize ⌝ }
+    ensures { λ _. ⌜ boardIn (now (board .exit)) ≡ withAsked (boardIn (now (board .entry))) (fitted (boardIn (now (board .entry)) .askedRoom) (askedTags (boardIn (now (board .entry)) .table .tags))) ⌝ }
+{
+    let mut asked = part_of(board, 1280);
+    descriptions::list_asked(&board[7424..38144], &mut asked);
+    put_part(board, 1280, asked);
+}
+
+// The wants are used up.
+fn use_up(board: &mut [u8])
+    requires { ⌜ length (now board) ≡ boardSize ⌝ }
+    ensures { λ _. ⌜ boardIn (now (board .exit)) ≡ withRecords (boardIn (now (board .entry))) (map unwanted (boardIn (now (board .entry)) .table .tags)) ⌝ }
+{
+    descriptions::use_up(&mut board[7424..38144]);
+}
+
 // Rule 8: the descriptions that are wanted are asked for, and the wants are used up.
 pub fn ask_descriptions(board: &mut [u8])
     requires { ⌜ length (now board) ≡ boardSize ⌝ }
     ensures { λ _. ⌜ boardIn (now (board .exit)) ≡ describing (boardIn (now (board .entry))) ⌝ }
 {
-    let mut asked = part_of(board, 1280);
-    descriptions::list_asked(&board[7424..38144], &mut asked);
-    put_part(board, 1280, asked);
-    descriptions::use_up(&mut board[7424..38144]);
+    ask_wanted(board);
+    use_up(board);
 }
 
 pub fn learn(board: &mut [u8], found: &[u8])
@@ -58,6 +76,28 @@ pub fn learn_none(board: &mut [u8])
     descriptions::learn_none(&mut board[7424..38144], &asked);
 }
 
+// The version checked on the table in its place; `words` is a copy.
+fn check_in_table(
+    board: &mut [u8],
+    words: &[u8],
+    settings: &[u8],
+    old: Version,
+    new: Version,
+    connecting: bool,
+)
+    requires { ⌜ length (now board) ≡ boardSize ⌝ }
+    ensures { λ _. ⌜ boardIn (now (board .exit)) ≡ withRecords (boardIn (now (board .entry))) (versionTable old new connecting (now (settings .entry)) (halvesIn (now (words .entry))) (boardIn (now (board .entry)) .table .tags)) ⌝ }
+{
+    versions::check::check_version(
+        &mut board[7424..38144],
+        words,
+        settings,
+        old,
+        new,
+        connecting,
+    );
+}
+
 // Rule 8: a version; a change or a connect takes the settings.
 pub fn check_version(
     board: &mut [u8],
@@ -70,12 +110,5 @@ pub fn check_version(
     ensures { λ _. ⌜ boardIn (now (board .exit)) ≡ withRecords (boardIn (now (board .entry))) (versionTable old new connecting (now (settings .entry)) (boardIn (now (board .entry)) .table .words) (boardIn (now (board .entry)) .table .tags)) ⌝ }
 {
     let words = part_of(board, 1024);
-    versions::check::check_version(
-        &mut board[7424..38144],
-        &words,
-        settings,
-        old,
-        new,
-        connecting,
-    );
+    check_in_table(board, &words, settings, old, new, connecting);
 }
