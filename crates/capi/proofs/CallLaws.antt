@@ -10,7 +10,6 @@ use borrow.Author.Tests.{ne-eqb}
 use Rattle.heads.specs.Link.{isState}
 use Rattle.heads.specs.declared.link.State.the-variants.{Connected}
 use Rattle.engine.specs.declared.Engine.{Engine}
-use Rattle.heads.specs.declared.link.State.the-variants.{Connected}
 use Rattle.lent.specs.Lent.{wroteAll}
 use Rattle.board.specs.Regions.{part, boardSize}
 use Rattle.replies.specs.Reply as reply
@@ -20,9 +19,6 @@ use Rattle.replies.specs.declared.reply.Reply.{Reply}
 use Rattle.replies.specs.declared.reply.Said.{Said}
 use Rattle.worker.specs.Answers.{Answer, stepCheck, stepped, step, Stepped as StepDone}
 use Rattle.worker.proofs.StepLaws.{stepped-plain}
-use Rattle.replies.specs.Losing.{isEmpty}
-use Rattle.replies.specs.declared.reply.Reply.{Reply}
-use Rattle.replies.specs.declared.reply.Said.{Said}
 use Rattle.capi.specs.Memory.{memorySize, notAnEngine, workerIn, Called}
 use Rattle.capi.proofs.Laws.{board-put}
 use Rattle.capi.specs.Calls.{SteppedBoard, Stepped}

@@ -15,8 +15,6 @@ use Rattle.replies.specs.Worker.{Worker, at, Told}
 use Rattle.replies.specs.Reply as reply
 use Rattle.replies.specs.declared.reply.Reply.{Reply}
 use Rattle.worker.specs.Answers.{step}
-use Rattle.replies.specs.Reply as reply
-use Rattle.replies.specs.declared.reply.Reply.{Reply}
 use Rattle.shown.specs.Looks.{listed, leftIn, panelLeft}
 use Rattle.shown.specs.declared.head.StateLook.{StateLook}
 use Rattle.shown.specs.declared.head.StatsLook.{StatsLook}

@@ -22,8 +22,6 @@ use Rattle.replies.specs.Losing.{isEmpty}
 use Rattle.replies.specs.declared.reply.Reply.{Reply}
 use Rattle.replies.specs.declared.reply.Said.{Said}
 use Rattle.worker.specs.Answers.{Answer}
-use Rattle.replies.specs.declared.reply.Reply.{Reply}
-use Rattle.replies.specs.declared.reply.Said.{Said}
 use Rattle.capi.specs.Memory.{memorySize, notAnEngine, workerIn}
 
 -- Rule 5: a tier call that is accepted

@@ -20,8 +20,6 @@ use super::whole::write_check;
 use checks::calls::tier_check;
 use engine::with_link;
 use heads::link::stopped;
-use heads::link::stopped;
-use replies::reply::Reply;
 use replies::reply::Reply;
 use words::value::value_from;
 use worker::checks::Answer;

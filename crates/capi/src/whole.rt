@@ -16,7 +16,6 @@ use engine::Engine;
 use engine::load;
 use engine::store;
 use replies::reply::Said;
-use replies::reply::Said;
 use values::value::Value;
 use worker::checks::Answer;
 use writes::queue::Write;

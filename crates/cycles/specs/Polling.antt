@@ -16,11 +16,6 @@ use Rattle.heads.specs.declared.progress.After.{After}
 use Rattle.heads.specs.declared.progress.After.the-variants.{Tail, Idle, End}
 use Rattle.heads.specs.declared.progress.Phase.the-variants.{Read, Describe, Version, Wait}
 use Rattle.engine.specs.Engine.{withCycle, withProgress}
-use Rattle.heads.specs.Progress.{withWriting, withRound}
-use Rattle.heads.specs.Stats.{readStats, tailStats}
-use Rattle.heads.specs.declared.progress.After.{After}
-use Rattle.heads.specs.declared.progress.After.the-variants.{Tail, Idle, End}
-use Rattle.heads.specs.declared.progress.Phase.the-variants.{Read, Describe, Version, Wait}
 use Rattle.board.specs.Board.{Board, withQueue}
 use Rattle.polls.specs.Polls.{withPolled, roundOf}
 use Rattle.talks.specs.Talks.{describing}

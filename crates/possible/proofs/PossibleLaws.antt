@@ -18,8 +18,7 @@ use Rattle.board.specs.Board.{rowCells}
 use Rattle.shown.specs.Looks.{listed, leftIn, panelLeft}
 use Rattle.capi.specs.Memory.{workerIn}
 use Rattle.capi.specs.Looks.{stateLook, statsLook, countsLook, groupCells, groupCount, groupCheck, tableCount, tableCheck, panelBytes, panelCount, panelCode, tagLook}
-use Rattle.turns.specs.Calls.{Call, tier, load, steps, write, stop, lookState, lookStats, lookCounts, lookGroups, lookTable, lookPanel, lookTag}
-use Rattle.turns.specs.Calls.{Answer, numberIs, told, stateIs, statsAre, countsAre, listIs, tagIs}
+use Rattle.turns.specs.Calls.{Call, tier, load, steps, write, stop, lookState, lookStats, lookCounts, lookGroups, lookTable, lookPanel, lookTag, Answer, numberIs, told, stateIs, statsAre, countsAre, listIs, tagIs}
 use Rattle.turns.specs.Contracts.{Learnt}
 use Rattle.possible.specs.Typed.{Lendable, Typed, EveryList}
 use Rattle.possible.proofs.PlainRuns.{tier-has, write-has, stop-has}

@@ -47,7 +47,6 @@ use Rattle.replies.specs.Worker.{at}
 use Rattle.replies.specs.declared.reply.Reply.{Reply}
 use Rattle.replies.proofs.reply.Reply as reply
 use Rattle.worker.specs.Answers.{step}
-use Rattle.replies.specs.declared.reply.Reply.{Reply}
 use Rattle.capi.specs.Calls.{answerOf, Stepped}
 use Rattle.capi.proofs.calls.wz_step.Met as step-theorem
 

@@ -13,7 +13,6 @@ use frames::numbers::eight;
 use frames::numbers::four;
 use frames::parts::list_at;
 use replies::reply::Reply;
-use replies::reply::Reply;
 use words::scalar::float_of_word;
 use words::scalar::int_of_word;
 use words::scalar::word_of_float;

@@ -9,7 +9,6 @@ use Rattle.lent.proofs.LentLaws.{wrote-none}
 use Rattle.board.specs.Board.{Board, boardIn}
 use Rattle.heads.specs.declared.progress.Phase.{Phase}
 use Rattle.engine.specs.declared.Engine.{Engine}
-use Rattle.heads.specs.declared.progress.Phase.{Phase}
 use Rattle.replies.specs.declared.reply.Reply.{Reply}
 use Rattle.replies.specs.declared.reply.Said.{Said}
 use Rattle.replies.specs.Worker.{Worker, Told, worker, Done, Quietly, goesOn}

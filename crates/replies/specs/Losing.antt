@@ -9,11 +9,6 @@ use Rattle.heads.specs.declared.link.State.the-variants.{Disconnected, Stopped 
 use Rattle.heads.specs.declared.progress.Phase.{Phase}
 use Rattle.heads.specs.declared.progress.Phase.the-variants.{Connect, Backoff, FailedTold, StaleTold, DisconnectedTold, Stopped}
 use Rattle.engine.specs.Engine.{backoffAt}
-use Rattle.heads.specs.Link.{isState, withAttempt}
-use Rattle.heads.specs.Stats.{counted}
-use Rattle.heads.specs.declared.link.State.the-variants.{Disconnected, Stopped as AtStop}
-use Rattle.heads.specs.declared.progress.Phase.{Phase}
-use Rattle.heads.specs.declared.progress.Phase.the-variants.{Connect, Backoff, FailedTold, StaleTold, DisconnectedTold, Stopped}
 use Rattle.board.specs.Board.{Board, withQueue, queuedTags}
 use Rattle.polls.specs.Polls.{staledIn, changesIn}
 use Rattle.replies.specs.Reply as reply

@@ -18,14 +18,7 @@ use Rattle.heads.specs.declared.progress.Phase.{Phase}
 use Rattle.heads.specs.declared.progress.Progress.{Progress}
 use Rattle.heads.specs.declared.stats.Stats.{Stats}
 use Rattle.engine.specs.Engine.{withLink, withProgress, withStats}
-use Rattle.heads.specs.Link.{withState}
-use Rattle.heads.specs.Progress.{withPhase}
 use Rattle.engine.specs.declared.Engine.{Engine}
-use Rattle.heads.specs.declared.link.Link.{Link}
-use Rattle.heads.specs.declared.link.State.{State}
-use Rattle.heads.specs.declared.progress.Phase.{Phase}
-use Rattle.heads.specs.declared.progress.Progress.{Progress}
-use Rattle.heads.specs.declared.stats.Stats.{Stats}
 use Rattle.board.specs.Board.{Board, boardIn, withAsked}
 use Rattle.replies.specs.declared.reply.Reply.{Reply}
 use Rattle.replies.specs.declared.reply.Said.{Said}

@@ -13,20 +13,12 @@ use engine::Engine;
 use engine::with_link;
 use engine::with_progress;
 use heads::link::State;
-use heads::link::State;
-use heads::link::is_state;
 use heads::link::is_state;
 use heads::link::with_attempt;
-use heads::link::with_attempt;
-use heads::link::with_state;
 use heads::link::with_state;
 use heads::progress::Phase;
-use heads::progress::Phase;
-use heads::progress::with_phase;
 use heads::progress::with_phase;
 use heads::stats::more;
-use heads::stats::more;
-use polls::entries::mark_stale;
 use polls::entries::mark_stale;
 
 // Something is asked or told, and the engine waits in the phase p.

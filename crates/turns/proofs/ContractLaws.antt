@@ -12,8 +12,7 @@ use Rattle.capi.specs.Memory.{memorySize, workerIn, Called}
 use Rattle.checks.specs.Calls.{tierCheck, loadCheck, writeCheck}
 use Rattle.capi.specs.Calls.{tiered, loaded, wrote, halted}
 use Rattle.capi.specs.Looks.{isEngine, stateLook, statsLook, countsLook, tagLook}
-use Rattle.turns.specs.Calls.{Call, tier, load, steps, write, stop, lookState, lookStats, lookCounts, lookGroups, lookTable, lookPanel, lookTag}
-use Rattle.turns.specs.Calls.{Answer, numberIs, told, stateIs, statsAre, countsAre, listIs, tagIs, answer, after}
+use Rattle.turns.specs.Calls.{Call, tier, load, steps, write, stop, lookState, lookStats, lookCounts, lookGroups, lookTable, lookPanel, lookTag, Answer, numberIs, told, stateIs, statsAre, countsAre, listIs, tagIs, answer, after}
 use Rattle.turns.specs.Contracts.{Asked, Learnt}
 use Rattle.turns.proofs.Said.{tier-said, load-said, write-said, stop-said, step-said, state-said, stats-said, counts-said, groups-said, table-said, panel-said, tag-said, ready-said}
 

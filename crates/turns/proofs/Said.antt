@@ -12,7 +12,6 @@ use Rattle.board.specs.Board.{rowCells}
 use Rattle.replies.specs.Worker.{at}
 use Rattle.replies.specs.declared.reply.Reply.{Reply}
 use Rattle.worker.specs.Answers.{step}
-use Rattle.replies.specs.declared.reply.Reply.{Reply}
 use Rattle.shown.specs.Looks.{listed, leftIn, panelLeft}
 use Rattle.shown.specs.declared.head.StateLook.{StateLook}
 use Rattle.shown.specs.declared.head.StatsLook.{StatsLook}

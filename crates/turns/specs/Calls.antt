@@ -13,7 +13,6 @@ use Rattle.board.specs.Board.{rowCells}
 use Rattle.replies.specs.Worker.{Worker, Told, at}
 use Rattle.replies.specs.declared.reply.Reply.{Reply}
 use Rattle.worker.specs.Answers.{step}
-use Rattle.replies.specs.declared.reply.Reply.{Reply}
 use Rattle.shown.specs.Looks.{stateOf, statsOf, countsOf, listed, leftIn, panelLeft, tagOf, noLook}
 use Rattle.shown.specs.declared.head.StateLook.{StateLook}
 use Rattle.shown.specs.declared.head.StatsLook.{StatsLook}

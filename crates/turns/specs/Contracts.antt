@@ -28,8 +28,7 @@ use Rattle.capi.proofs.looks.wz_group_stats.Reads as groups-contract
 use Rattle.capi.proofs.looks.wz_table.Reads as table-contract
 use Rattle.capi.proofs.looks.wz_panel.Reads as panel-contract
 use Rattle.capi.proofs.looks.wz_tag.Reads as tag-contract
-use Rattle.turns.specs.Calls.{Call, tier, load, steps, write, stop, lookState, lookStats, lookCounts, lookGroups, lookTable, lookPanel, lookTag}
-use Rattle.turns.specs.Calls.{Answer, numberIs, told, stateIs, statsAre, countsAre, listIs, tagIs}
+use Rattle.turns.specs.Calls.{Call, tier, load, steps, write, stop, lookState, lookStats, lookCounts, lookGroups, lookTable, lookPanel, lookTag, Answer, numberIs, told, stateIs, statsAre, countsAre, listIs, tagIs}
 
 -- ---- an entry point was called and came back with r
 

@@ -2,7 +2,6 @@
 // reading is lost, and so is every attempt to connect again.
 use memory::cells::put_cell;
 use replies::reply::Reply;
-use replies::reply::Reply;
 use worker::checks::Answer;
 
 const TAGS: usize = 4;

@@ -11,7 +11,6 @@ use capi::calls::wz_step;
 use capi::creation::wz_create;
 use changes::Change;
 use replies::reply::Reply;
-use replies::reply::Reply;
 use worker::checks::Answer;
 
 // The bytes of an engine.

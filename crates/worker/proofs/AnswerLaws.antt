@@ -10,7 +10,6 @@ use Rattle.board.specs.Board.{Board, boardIn}
 use Rattle.polls.specs.Polls.{changesIn}
 use Rattle.heads.specs.declared.progress.Phase.{Phase}
 use Rattle.engine.specs.declared.Engine.{Engine}
-use Rattle.heads.specs.declared.progress.Phase.{Phase}
 use Rattle.replies.specs.declared.reply.Reply.{Reply}
 use Rattle.replies.specs.declared.reply.Said.{Said}
 use Rattle.replies.specs.Losing.{isEmpty}

@@ -22,12 +22,6 @@ use Rattle.heads.specs.declared.progress.After.the-variants.{Tail, Idle, End}
 use Rattle.heads.specs.declared.progress.Phase.{Phase}
 use Rattle.heads.specs.declared.progress.Phase.the-variants.{Begin, Connect, OpenVersion, Version, Read, Describe, Write, ReadBack, Wait, Backoff, OpenFailedTold, OpenMetaTold, ConnectedTold, MetaTold, ValuesTold, InfoTold, RefusedTold, LostTold, OutcomeTold, BackTold, FailedTold, StaleTold, DisconnectedTold, ConnectingTold, Stopped}
 use Rattle.engine.specs.Engine.{withClock}
-use Rattle.heads.specs.Link.{isState, withAttempt, withVersion}
-use Rattle.heads.specs.Stats.{reconnected, reloaded}
-use Rattle.heads.specs.declared.link.State.the-variants.{Connecting, Connected}
-use Rattle.heads.specs.declared.progress.After.the-variants.{Tail, Idle, End}
-use Rattle.heads.specs.declared.progress.Phase.{Phase}
-use Rattle.heads.specs.declared.progress.Phase.the-variants.{Begin, Connect, OpenVersion, Version, Read, Describe, Write, ReadBack, Wait, Backoff, OpenFailedTold, OpenMetaTold, ConnectedTold, MetaTold, ValuesTold, InfoTold, RefusedTold, LostTold, OutcomeTold, BackTold, FailedTold, StaleTold, DisconnectedTold, ConnectingTold, Stopped}
 use Rattle.board.specs.Board.{Board, withRecords, withAsked, withBack}
 use Rattle.polls.specs.Polls.{Changed, appliedTo, changesIn}
 use Rattle.talks.specs.Talks.{keptBack}

@@ -28,8 +28,6 @@ use cycles::polling::writing;
 use engine::Engine;
 use engine::with_clock;
 use heads::progress::After;
-use heads::progress::After;
-use heads::progress::Phase;
 use heads::progress::Phase;
 use replies::losing::backing_off;
 use replies::losing::disconnected;

@@ -4,7 +4,6 @@ use Rattle.capi.specs.Calls.{answerOf, SteppedBoard}
 use Rattle.capi.specs.Memory.{workerIn}
 use Rattle.replies.specs.Worker.{Told, At, at, worker}
 use Rattle.worker.specs.Answers.{Answer, step}
-use Rattle.replies.specs.Worker.{Told, At, at, worker}
 use Rattle.engine.specs.declared.Engine.{Engine}
 use Rattle.replies.specs.declared.reply.Said.{Said}
 use mathlib.Core.List.{List}

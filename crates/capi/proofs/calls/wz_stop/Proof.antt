@@ -5,8 +5,6 @@ use Rattle.replies.specs.Worker.{worker}
 use Rattle.heads.specs.declared.link.Link.{Link}
 use Rattle.heads.specs.Link.{stopped}
 use Rattle.engine.specs.declared.Engine.{Engine}
-use Rattle.heads.specs.declared.link.Link.{Link}
-use Rattle.heads.specs.Link.{stopped}
 use Rattle.engine.specs.Engine.{withLink}
 use mathlib.Core.Path.{refl, ap, sym, _∙_}
 use denote.Ref.{now}

@@ -14,9 +14,7 @@ use Rattle.lent.specs.Lent.{wroteAll}
 use Rattle.heads.specs.Progress.{withRound}
 use Rattle.heads.specs.declared.progress.Phase.the-variants.{Read}
 use Rattle.engine.specs.Engine.{withCycle, withProgress}
-use Rattle.heads.specs.Progress.{withRound}
 use Rattle.engine.specs.declared.Engine.{Engine}
-use Rattle.heads.specs.declared.progress.Phase.the-variants.{Read}
 use Rattle.replies.specs.declared.reply.Said.{Said}
 use Rattle.replies.specs.Reply as reply
 use Rattle.replies.specs.Worker.{Worker, worker, at, tell, phased, saidIn, Done}

@@ -7,7 +7,6 @@ use mir.Syntax.{w64}
 use mir.Facts.{toZ-ofZ}
 use Rattle.heads.specs.Stats.{tailStats}
 use Rattle.engine.specs.Engine.{withStats}
-use Rattle.heads.specs.Stats.{tailStats}
 use Rattle.replies.specs.Worker.{worker, at}
 use Rattle.replies.proofs.DoneLaws.{quiet-is}
 use Rattle.cycles.specs.Polling.{polls, elapsed, idle, tail}

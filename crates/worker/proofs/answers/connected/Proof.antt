@@ -4,8 +4,6 @@ use mathlib.Core.Bool.{true, false}
 use Rattle.heads.specs.Link.{isState, withAttempt}
 use Rattle.heads.specs.declared.link.State.the-variants.{Connected}
 use Rattle.engine.specs.Engine.{withLink}
-use Rattle.heads.specs.Link.{isState, withAttempt}
-use Rattle.heads.specs.declared.link.State.the-variants.{Connected}
 use Rattle.replies.specs.Worker.{worker}
 use Rattle.replies.proofs.DoneLaws.{quiet-is}
 use Rattle.cycles.specs.Polling.{polls}

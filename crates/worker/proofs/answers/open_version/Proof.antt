@@ -9,10 +9,7 @@ use Rattle.heads.specs.Link.{withVersion}
 use Rattle.heads.specs.Stats.{reloaded}
 use Rattle.heads.specs.declared.progress.Phase.the-variants.{OpenMetaTold}
 use Rattle.engine.specs.Engine.{withLink, withStats}
-use Rattle.heads.specs.Link.{withVersion}
-use Rattle.heads.specs.Stats.{reloaded}
 use Rattle.engine.specs.declared.Engine.{Engine}
-use Rattle.heads.specs.declared.progress.Phase.the-variants.{OpenMetaTold}
 use Rattle.replies.specs.Reply as reply
 use Rattle.replies.specs.Worker.{worker, saidIn, asks}
 use Rattle.replies.proofs.DoneLaws.{done-is, quiet-done}

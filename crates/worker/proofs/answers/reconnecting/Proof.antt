@@ -8,11 +8,7 @@ use Rattle.heads.specs.Stats.{reconnected}
 use Rattle.heads.specs.declared.link.State.the-variants.{Connecting}
 use Rattle.heads.specs.declared.progress.Phase.the-variants.{ConnectingTold}
 use Rattle.engine.specs.Engine.{withLink, withStats}
-use Rattle.heads.specs.Link.{isState}
-use Rattle.heads.specs.Stats.{reconnected}
 use Rattle.engine.specs.declared.Engine.{Engine}
-use Rattle.heads.specs.declared.link.State.the-variants.{Connecting}
-use Rattle.heads.specs.declared.progress.Phase.the-variants.{ConnectingTold}
 use Rattle.replies.specs.Reply as reply
 use Rattle.replies.specs.Worker.{worker, saidIn, asks, stated}
 use Rattle.replies.specs.Losing.{top}

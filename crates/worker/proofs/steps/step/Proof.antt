@@ -8,8 +8,7 @@ use denote.Ref.{now}
 use mir.Val.{SFits}
 use mir.Syntax.{w64}
 use mir.Facts.{toZ-ofZ}
-use borrow.Author.Tests.{eqb-false}
-use borrow.Author.Tests.{eq-eqb, ne-eqb}
+use borrow.Author.Tests.{eqb-false, eq-eqb, ne-eqb}
 use Rattle.engine.specs.declared.Engine.{Engine}
 use Rattle.board.specs.Board.{boardIn}
 use Rattle.replies.specs.declared.reply.Reply.{Reply}
