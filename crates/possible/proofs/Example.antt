@@ -47,8 +47,6 @@ use Rattle.settings.specs.Records as settings-Records
 use Rattle.settings.specs.Settings as settings-Settings
 use Rattle.settings.specs.Configured as settings-Configured
 use Rattle.versions.specs.Versions as versions-Versions
-use Rattle.heads.specs.Progress as engine-Progress
-use Rattle.heads.specs.Stats as engine-Stats
 use Rattle.heads.specs.Progress as heads-Progress
 use Rattle.heads.specs.Stats as heads-Stats
 use Rattle.engine.specs.Engine as engine-Engine
@@ -64,8 +62,6 @@ use Rattle.board.specs.Regions as board-Regions
 use Rattle.board.specs.Board as board-Board
 use Rattle.polls.specs.Polls as polls-Polls
 use Rattle.board.specs.Creation as board-Creation
-use Rattle.replies.specs.Losing as worker-Losing
-use Rattle.cycles.specs.Polling as worker-Polling
 use Rattle.replies.specs.Losing as replies-Losing
 use Rattle.cycles.specs.Polling as cycles-Polling
 use Rattle.worker.specs.Answers as worker-Answers

@@ -29,8 +29,6 @@ use Rattle.settings.specs.Records as settings-Records
 use Rattle.settings.specs.Settings as settings-Settings
 use Rattle.settings.specs.Configured as settings-Configured
 use Rattle.versions.specs.Versions as versions-Versions
-use Rattle.heads.specs.Progress as engine-Progress
-use Rattle.heads.specs.Stats as engine-Stats
 use Rattle.heads.specs.Progress as heads-Progress
 use Rattle.heads.specs.Stats as heads-Stats
 use Rattle.engine.specs.Engine as engine-Engine
