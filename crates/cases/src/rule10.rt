@@ -1,14 +1,14 @@
 // Rule 10: counts of tiers, and groups.
-use super::given::enter_in;
-use super::given::first;
-use super::given::miss;
-use super::given::put_pair;
-use super::given::put_setting;
-use super::given::round;
-use super::print::next;
-use super::print::number;
-use super::print::tags;
-use super::print::text;
+use given::print::next;
+use given::print::number;
+use given::print::tags;
+use given::print::text;
+use given::steps::enter_in;
+use given::steps::first;
+use given::steps::miss;
+use given::steps::put_pair;
+use given::steps::put_setting;
+use given::steps::round;
 use memory::cells::cell;
 use rounds::tick::Cycle;
 use settings::configured::keep_configured;

@@ -1,23 +1,22 @@
 // Rule 7: readings applied, and a table marked stale.
-use super::given::apply_first;
-use super::given::ask_first;
-use super::given::enter;
-use super::given::enter_in;
-use super::given::miss;
-use super::given::poll;
-use super::given::put_error;
-use super::given::put_setting;
-use super::given::put_value;
-use super::given::read_back;
-use super::print::held;
-use super::print::sent;
-use super::print::tags;
-use super::print::text;
 use entries::cached_of;
 use entries::published_of;
+use given::print::held;
+use given::print::sent;
+use given::print::tags;
+use given::print::text;
+use given::steps::apply_first;
+use given::steps::ask_first;
+use given::steps::enter;
+use given::steps::enter_in;
+use given::steps::miss;
+use given::steps::poll;
+use given::steps::put_error;
+use given::steps::put_setting;
+use given::steps::put_value;
+use given::steps::read_back;
 use readings::listed::apply;
 use readings::stale::mark_stale;
-use tags::push;
 use values::error::ErrorKind;
 use values::value::Value;
 

@@ -1,29 +1,25 @@
--- `cases::print::bytes` is safe and ends.
+-- `given::print::each` is safe and ends.
 use mathlib.Core.Path.{_≡_}
 use Prim.Native.Nat.{_≤_, _-_}
 use native.Mathlib.Omega.{arith}
 use borrow.Author.Needs.{needs}
-use lib.ListN.{length}
-use Rattle.cases.proofs.print.bytes.Statement.{statement}
-use Rattle.cases.proofs.print.bytes.Tie as tie
+use Rattle.given.proofs.print.each.Statement.{statement}
+use Rattle.given.proofs.print.each.Tie as tie
 
 abbrev Inv-loop : tie.InvT-loop
-Inv-loop label s i₀ i = i ≤ length s
+Inv-loop list n i₀ i = i ≤ n
 
 abbrev μ-loop : tie.MeasureT-loop
-μ-loop label s i₀ i = length s - i
+μ-loop list n i₀ i = n - i
 
-text-requires : tie.Need-text-requires Inv-loop μ-loop
-text-requires c κs = search needs
+count-requires : tie.Need-count-requires Inv-loop μ-loop
+count-requires c κs = search needs
 
 loop-holds : tie.Need-loop-holds Inv-loop μ-loop
 loop-holds c = omega arith
 
-shared-slice-read-wide : tie.Need-shared-slice-read-wide Inv-loop μ-loop
-shared-slice-read-wide c = omega arith
-
-wide-requires : tie.Need-wide-requires Inv-loop μ-loop
-wide-requires c κs = search needs
+at-requires : tie.Need-at-requires Inv-loop μ-loop
+at-requires c κs = search needs
 
 next-requires : tie.Need-next-requires Inv-loop μ-loop
 next-requires c κs = search needs
@@ -40,16 +36,15 @@ loop-again c = omega arith
 returns : tie.Need-returns Inv-loop μ-loop
 returns c = search needs
 
-pub bytes-spec : {M : Type 1} → statement M
-bytes-spec =
+pub each-spec : {M : Type 1} → statement M
+each-spec =
     tie.close
     (tie.spec
     Inv-loop
     μ-loop
-    text-requires
+    count-requires
     loop-holds
-    shared-slice-read-wide
-    wide-requires
+    at-requires
     next-requires
     add-i
     loop-less

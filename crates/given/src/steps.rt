@@ -1,10 +1,9 @@
-// What cases have in common: tags entered, settings, results, readings and rounds.
+// The steps that cases are made of: tags entered, settings and results put down, readings and rounds.
 use super::print::asked;
 use memory::cells::put_cell;
 use rounds::tick::Cycle;
 use rounds::tick::Options;
 use tags::contains;
-use tags::push;
 use tiers::grace::set_tier;
 use values::error::Error;
 use values::error::ErrorKind;

@@ -1,11 +1,11 @@
--- `cases::rule8::push_33` is safe and ends.
+-- `cases_host::rule8::push_33` is safe and ends.
 use mathlib.Core.Path.{_≡_, refl, _∙_}
 use Prim.Native.Nat.{_-_}
 use native.Mathlib.Omega.{arith}
 use borrow.Author.Needs.{needs}
 use lib.ListN.{length}
-use Rattle.cases.proofs.rule8.push_33.Statement.{statement}
-use Rattle.cases.proofs.rule8.push_33.Tie as tie
+use Rattle.cases_host.proofs.rule8.push_33.Statement.{statement}
+use Rattle.cases_host.proofs.rule8.push_33.Tie as tie
 
 abbrev Inv-loop : tie.InvT-loop
 Inv-loop q₀ i₀ q i = length q ≡ length q₀

@@ -1,27 +1,27 @@
 // Rule 8: writes, versions and descriptions.
-use super::given::ask_first;
-use super::given::enter;
-use super::given::enter_in;
-use super::given::miss;
-use super::given::poll;
-use super::given::put_error;
-use super::given::put_pair;
-use super::given::put_setting;
-use super::given::put_value;
-use super::print::description;
-use super::print::held;
-use super::print::number;
-use super::print::reload;
-use super::print::sent;
-use super::print::tags;
-use super::print::text;
-use super::print::value;
 use descriptions::learn;
 use descriptions::learn_none;
 use descriptions::list_asked;
 use descriptions::use_up;
 use entries::cached_of;
 use fields::description_of;
+use given::print::description;
+use given::print::held;
+use given::print::number;
+use given::print::reload;
+use given::print::sent;
+use given::print::tags;
+use given::print::text;
+use given::print::value;
+use given::steps::ask_first;
+use given::steps::enter;
+use given::steps::enter_in;
+use given::steps::miss;
+use given::steps::poll;
+use given::steps::put_error;
+use given::steps::put_pair;
+use given::steps::put_setting;
+use given::steps::put_value;
 use memory::cells::put_cell;
 use ranks::fill_words;
 use tiers::grace::set_tier;
@@ -314,7 +314,7 @@ fn again() {
 }
 
 pub fn run() {
-    text(b"\nrule 8");
+    text(b"rule 8");
     queue();
     read_backs();
     read_back_values();

@@ -1,7 +1,7 @@
 // Rule 11: the panel list.
-use super::print::bytes;
-use super::print::number;
-use super::print::text;
+use given::print::bytes;
+use given::print::number;
+use given::print::text;
 use panel::check::check_panel;
 use panel::load::load_panel;
 use panel::write::write_panel;

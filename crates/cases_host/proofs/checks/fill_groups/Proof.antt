@@ -1,11 +1,11 @@
--- `cases::checks::fill_groups` is safe and ends.
+-- `cases_host::checks::fill_groups` is safe and ends.
 use mathlib.Core.Path.{_≡_, refl, _∙_}
 use Prim.Native.Nat.{_-_}
 use native.Mathlib.Omega.{arith}
 use borrow.Author.Needs.{needs}
 use lib.ListN.{length}
-use Rattle.cases.proofs.checks.fill_groups.Statement.{statement}
-use Rattle.cases.proofs.checks.fill_groups.Tie as tie
+use Rattle.cases_host.proofs.checks.fill_groups.Statement.{statement}
+use Rattle.cases_host.proofs.checks.fill_groups.Tie as tie
 
 abbrev Inv-loop : tie.InvT-loop
 Inv-loop groups₀ i₀ groups i = length groups ≡ length groups₀

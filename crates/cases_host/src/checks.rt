@@ -1,9 +1,9 @@
 // Checks 14 and 42.
-use super::given::put_pair;
-use super::given::put_setting;
-use super::given::put_value;
-use super::print::accepted;
-use super::print::text;
+use given::print::accepted;
+use given::print::text;
+use given::steps::put_pair;
+use given::steps::put_setting;
+use given::steps::put_value;
 use results::check::check_results;
 use settings::configured::check_configured;
 use settings::setting::check_settings;
