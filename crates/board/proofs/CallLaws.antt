@@ -1,7 +1,7 @@
 -- The board after a call on its table: the table is lent in place, the order and the graces are copied out and back.
 use mathlib.Core.Path.{_≡_, ap, sym, _∙_}
 use mathlib.Core.List.{List}
-use Prim.Native.Nat.{ℕ, _+_, _≤_}
+use Prim.Native.Nat.{ℕ}
 use native.Mathlib.Omega.{arith}
 use borrow.Rule.Slice.PartMut.{putMid, same-len-mid}
 use lib.ListN.{length}

@@ -1,11 +1,11 @@
 -- A part of the board lent and given back: it holds what it was given, and every other part what it held.
 use mathlib.Core.Path.{_≡_, refl, ap, sym, _∙_}
-use mathlib.Core.List.{List, [], _∷_, _++_}
-use Prim.Native.Nat.{ℕ, _+_, _-_, _≤_, _<_}
+use mathlib.Core.List.{List, _++_}
+use Prim.Native.Nat.{ℕ, _+_, _-_, _≤_}
 use native.Mathlib.Omega.{arith}
 use borrow.Rule.Slice.PartMut.{putMid, postOf, same-len-mid, drop-put}
 use lib.ListN.{length, take, drop, length-drop, take-append-drop}
-use lib.Seq.{drop-append-le, take-append-le, take-at, drop-at, drop-drop, take-all, length-take-le}
+use lib.Seq.{drop-append-le, take-append-le, take-at, drop-at, drop-drop, length-take-le}
 use Rattle.board.specs.Regions.{Regions, regionsIn, part, boardSize}
 
 pub part-length : (a k : ℕ) (bs : List ℕ) → a + k ≤ length bs → length (part a k bs) ≡ k

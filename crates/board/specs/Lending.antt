@@ -3,7 +3,6 @@ use mathlib.Core.List.{List}
 use mathlib.Core.Path.{_≡_}
 use Prim.Native.Nat.{ℕ}
 use borrow.Rule.Slice.PartMut.{putMid}
-use Rattle.tags.specs.Lists.{listIn}
 use Rattle.tiers.specs.Tiers.{Table, tabled}
 use Rattle.board.specs.Regions.{part}
 

@@ -7,14 +7,11 @@ use borrow.Rule.Slice.PartMut.{putMid, put-same}
 use lib.Dec.{eqb}
 use lib.ListN.{length}
 use borrow.Author.Tests.{ne-eqb}
-use Rattle.heads.specs.Link.{isState}
-use Rattle.heads.specs.declared.link.State.the-variants.{Connected}
 use Rattle.engine.specs.declared.Engine.{Engine}
 use Rattle.lent.specs.Lent.{wroteAll}
 use Rattle.board.specs.Regions.{part, boardSize}
 use Rattle.replies.specs.Reply as reply
 use Rattle.replies.specs.Worker.{Worker, Told, At, worker, tell}
-use Rattle.replies.specs.Losing.{isEmpty}
 use Rattle.replies.specs.declared.reply.Reply.{Reply}
 use Rattle.replies.specs.declared.reply.Said.{Said}
 use Rattle.worker.specs.Answers.{Answer, stepCheck, stepped, step, Stepped as StepDone}

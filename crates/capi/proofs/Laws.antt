@@ -1,15 +1,14 @@
 -- The head and the board in one memory: a part lent and given back holds what it was given, and the other what it held.
-use mathlib.Core.Path.{_≡_, refl, ap, ap₂, sym, _∙_}
+use mathlib.Core.Path.{_≡_, refl, ap, ap₂, _∙_}
 use mathlib.Core.List.{List}
-use Prim.Native.Nat.{ℕ, _+_, _≤_, _<_, _/_, _%_}
+use Prim.Native.Nat.{ℕ, _+_, _≤_, _<_}
 use native.Mathlib.Omega.{arith}
-use borrow.Rule.Slice.PartMut.{putMid, put-same}
-use lib.Dec.{ltb}
+use borrow.Rule.Slice.PartMut.{putMid}
 use lib.ListN.{length}
 use Rattle.engine.specs.Engine.{engineFrom, engineIn, stored}
 use Rattle.engine.specs.declared.Engine.{Engine}
 use Rattle.board.specs.Regions.{part, boardSize}
-use Rattle.board.specs.Board.{Board, boardIn}
+use Rattle.board.specs.Board.{boardIn}
 use Rattle.board.proofs.Laws.{part-length, part-same, part-before, part-after}
 use Rattle.replies.specs.Worker.{Worker, worker}
 use Rattle.capi.specs.Memory.{memorySize, workerIn}

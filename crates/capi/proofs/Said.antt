@@ -21,7 +21,7 @@ use Rattle.shown.specs.declared.head.StatsLook.{StatsLook}
 use Rattle.shown.specs.declared.counts.CountsLook.{CountsLook}
 use Rattle.shown.specs.declared.lists.ListLook.{ListLook}
 use Rattle.shown.specs.declared.tag.TagLook.{TagLook}
-use Rattle.capi.specs.Memory.{memorySize, workerIn, Called}
+use Rattle.capi.specs.Memory.{workerIn, Called}
 use Rattle.checks.specs.Calls.{tierCheck, loadCheck, writeCheck}
 use Rattle.capi.specs.Calls.{tiered, loaded, wrote, halted, answerOf, Stepped}
 use Rattle.checks.specs.Creation.{Setup, creationCheck}

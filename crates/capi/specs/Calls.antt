@@ -1,5 +1,5 @@
 -- Tier calls, loads, writes, stops and steps.
-use mathlib.Core.Bool.{false, not}
+use mathlib.Core.Bool.{false}
 use mathlib.Core.List.{List}
 use mathlib.Core.Path.{_≡_}
 use Prim.Native.Nat.{ℕ}
@@ -11,14 +11,12 @@ use Rattle.tiers.specs.Tiers.{setTier}
 use Rattle.panel.specs.Panel.{loadedList}
 use Rattle.writes.specs.Queue.{queuedWith}
 use Rattle.writes.specs.declared.queue.Write.{Write}
-use Rattle.heads.specs.Link.{isState, stopped}
-use Rattle.heads.specs.declared.link.State.the-variants.{Connected}
+use Rattle.heads.specs.Link.{stopped}
 use Rattle.engine.specs.Engine.{withClock}
 use Rattle.lent.specs.Lent.{wroteAll}
 use Rattle.board.specs.Board.{withTable, withQueue}
 use Rattle.replies.specs.Reply as reply
 use Rattle.replies.specs.Worker.{Worker, Told, worker, withBoard, linked}
-use Rattle.replies.specs.Losing.{isEmpty}
 use Rattle.replies.specs.declared.reply.Reply.{Reply}
 use Rattle.replies.specs.declared.reply.Said.{Said}
 use Rattle.worker.specs.Answers.{Answer}

@@ -1,5 +1,4 @@
 // Tier calls, loads, writes, stops and steps. Each checks, lends the board to the rule, and stores the head.
-ghost use mathlib.Core.Path.{_≡_};
 ghost use lib.ListN.{length};
 ghost use Rattle.words.specs.Value.{valueFrom};
 ghost use Rattle.replies.specs.Worker.{at};

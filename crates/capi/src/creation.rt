@@ -1,5 +1,4 @@
 // Creation.
-ghost use mathlib.Core.Path.{_≡_};
 ghost use Rattle.capi.specs.Memory.{Called};
 ghost use Rattle.checks.specs.Creation.{creationCheck};
 ghost use Rattle.capi.specs.Creation.{freshWorker};

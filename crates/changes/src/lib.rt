@@ -3,7 +3,7 @@
 // at the end takes and gives the run by value, so that a caller is covered.
 ghost use mathlib.Core.Path.{_≡_};
 ghost use Prim.Native.Nat.{_≤_, _<_, min};
-ghost use lib.ListN.{length, getD, take};
+ghost use lib.ListN.{getD, take};
 ghost use Rattle.memory.specs.Cells.{cellsIn};
 ghost use Rattle.names.specs.Directory.{maxNames};
 ghost use Rattle.runs.specs.Run.{over, filled, answer};

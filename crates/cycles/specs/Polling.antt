@@ -1,8 +1,7 @@
 -- Rule 9: rounds, the writes behind them, and the waits between them.
-use mathlib.Core.Bool.{Bool, true, false, cond}
+use mathlib.Core.Bool.{false, cond}
 use mathlib.Core.List.{List, []}
-use mathlib.Core.Path.{_≡_}
-use mathlib.Core.Option.{Option, none, some}
+use mathlib.Core.Option.{some}
 use Prim.Native.Nat.{ℕ}
 use lib.Ieee.{Float, binary64, round as rounded, sub, le}
 use lib.ListN.{length}
@@ -16,7 +15,7 @@ use Rattle.heads.specs.declared.progress.After.{After}
 use Rattle.heads.specs.declared.progress.After.the-variants.{Tail, Idle, End}
 use Rattle.heads.specs.declared.progress.Phase.the-variants.{Read, Describe, Version, Wait}
 use Rattle.engine.specs.Engine.{withCycle, withProgress}
-use Rattle.board.specs.Board.{Board, withQueue}
+use Rattle.board.specs.Board.{withQueue}
 use Rattle.polls.specs.Polls.{withPolled, roundOf}
 use Rattle.talks.specs.Talks.{describing}
 use Rattle.replies.specs.Reply as reply

@@ -1,6 +1,6 @@
 -- The groups in terms of their rows, and the parts of what memory holds.
 use mathlib.Core.Path.{_≡_, refl, ap, sym, _∙_}
-use mathlib.Core.List.{List, [], _∷_, map}
+use mathlib.Core.List.{List, map}
 use Prim.Native.Nat.{ℕ, _%_}
 use lib.Dec.{ltb}
 use lib.Ieee.{binary64, ofBits}

@@ -1,9 +1,9 @@
 -- From the contracts of the calls, one for each, to one claim about a list of calls.
 use mathlib.Core.Path.{_≡_, refl, ap, ap₂, _∙_}
-use mathlib.Core.List.{List, [], _∷_, map}
+use mathlib.Core.List.{List, [], _∷_}
 use Prim.Native.Nat.{ℕ, _<_}
 use Rattle.histories.specs.Events.{Event, Each, EveryTurnOfRounds}
-use Rattle.histories.specs.Histories.{Did, calls, answered, engines, Ready, Happened, atEach, answers, trace, states, AsRuled}
+use Rattle.histories.specs.Histories.{Did, calls, Ready, Happened, atEach, answers, trace, states, AsRuled}
 use Rattle.histories.specs.Respects.{Respects}
 use Rattle.histories.proofs.TurnLaws.{turns}
 

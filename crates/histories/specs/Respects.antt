@@ -1,6 +1,6 @@
 -- Rule 6, of every call: what it may do to the slice index and to the tier-2 tags, by what it did.
 use mathlib.Core.Path.{_≡_}
-use mathlib.Core.Bool.{Bool, false, cond}
+use mathlib.Core.Bool.{false, cond}
 use mathlib.Core.List.{List}
 use Prim.Native.Nat.{ℕ}
 use Rattle.lists.specs.Keep.{count}

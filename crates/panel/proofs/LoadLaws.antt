@@ -1,5 +1,5 @@
 -- Loading a list of tags of the directory keeps the table listed, and every tag in grace in tier 2.
-use mathlib.Core.Path.{_≡_, _∙_}
+use mathlib.Core.Path.{_≡_}
 use mathlib.Core.Bool.{Bool, true, false, cond}
 use mathlib.Core.List.{List, [], _∷_}
 use Prim.Native.Nat.{ℕ, _<_}

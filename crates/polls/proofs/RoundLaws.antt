@@ -9,7 +9,6 @@ use lib.ListN.{length}
 use Rattle.lists.specs.Sort.{byKeys}
 use Rattle.memory.specs.Halves.{halvesIn}
 use Rattle.tags.specs.Lists.{listIn, room}
-use Rattle.slices.specs.Room.{fitted}
 use Rattle.tags.proofs.ListLaws.{room-same}
 use Rattle.rounds.specs.Round.{Polling, Round, round}
 use Rattle.rounds.specs.Memory.{pollingIn, roomsIn, Worked as Rounded}

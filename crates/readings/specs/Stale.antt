@@ -7,7 +7,6 @@ use Rattle.lists.specs.Keep.{keep}
 use Rattle.values.specs.declared.error.Error.the-variants.{None as NoError}
 use Rattle.values.specs.declared.entry.Quality.{Quality}
 use Rattle.values.specs.declared.entry.Quality.the-variants.{Good, Bad, Missing, Stale}
-use Rattle.values.specs.declared.entry.Entry.{Entry}
 use Rattle.values.specs.declared.entry.Held.{Held}
 use Rattle.values.specs.declared.entry.Held.the-variants.{None, Is}
 use Rattle.table.specs.Tag.{freshTag}

@@ -1,17 +1,13 @@
 -- What was done, carried along equations and out of calls that leave the board and the lent list alone.
 use mathlib.Core.Path.{_≡_, refl, ap, sym, _∙_, subst}
 use mathlib.Core.Bool.{Bool, true, false, cond}
-use mathlib.Core.List.{List, [], _∷_}
+use mathlib.Core.List.{List, []}
 use Prim.Native.Nat.{ℕ}
-use lib.ListN.{length}
 use Rattle.lent.specs.Lent.{wroteAll, wroteCells, hasRoom}
 use Rattle.lent.proofs.LentLaws.{wrote-none}
 use Rattle.board.specs.Board.{Board, boardIn}
-use Rattle.heads.specs.declared.progress.Phase.{Phase}
-use Rattle.engine.specs.declared.Engine.{Engine}
-use Rattle.replies.specs.declared.reply.Reply.{Reply}
 use Rattle.replies.specs.declared.reply.Said.{Said}
-use Rattle.replies.specs.Worker.{Worker, Told, worker, Done, Quietly, goesOn}
+use Rattle.replies.specs.Worker.{Told, Done, Quietly}
 
 -- nothing is written where there are no cells
 pub wrote-nothing : (out : List ℕ) → wroteAll out [] ≡ out

@@ -1,7 +1,6 @@
 -- Rules 8 and 9: the end, and a connection that is lost.
 use mathlib.Core.Bool.{Bool, true, false, cond}
-use mathlib.Core.List.{List, [], _∷_, map}
-use Prim.Native.Nat.{ℕ}
+use mathlib.Core.List.{List, [], _∷_}
 use lib.ListN.{length}
 use Rattle.heads.specs.Link.{isState, withAttempt}
 use Rattle.heads.specs.Stats.{counted}
@@ -9,7 +8,7 @@ use Rattle.heads.specs.declared.link.State.the-variants.{Disconnected, Stopped 
 use Rattle.heads.specs.declared.progress.Phase.{Phase}
 use Rattle.heads.specs.declared.progress.Phase.the-variants.{Connect, Backoff, FailedTold, StaleTold, DisconnectedTold, Stopped}
 use Rattle.engine.specs.Engine.{backoffAt}
-use Rattle.board.specs.Board.{Board, withQueue, queuedTags}
+use Rattle.board.specs.Board.{withQueue, queuedTags}
 use Rattle.polls.specs.Polls.{staledIn, changesIn}
 use Rattle.replies.specs.Reply as reply
 use Rattle.replies.specs.Worker.{Worker, Told, tell, asks, withBoard, phased, linked, stated}

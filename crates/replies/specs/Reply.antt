@@ -1,5 +1,4 @@
 -- What a step gives back: one request or one event. Document 01's requests and events have these numbers.
-use mathlib.Core.List.{List}
 use Prim.Native.Nat.{ℕ}
 use lib.Ieee.{Float, binary64, ofBits}
 use Rattle.values.specs.declared.value.Value.{Value}

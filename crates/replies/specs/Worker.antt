@@ -1,13 +1,12 @@
 -- An engine: its head and its board.
 use mathlib.Core.Bool.{Bool, true}
-use mathlib.Core.List.{List, [], _∷_}
+use mathlib.Core.List.{List, []}
 use mathlib.Core.Option.{Option, none}
 use mathlib.Core.Path.{_≡_}
 use Prim.Native.Nat.{ℕ}
 use lib.Dec.{eqb}
 use lib.Ieee.{Float}
 use lib.IntN.{ℤ}
-use lib.ListN.{length}
 use Rattle.lent.specs.Lent.{wroteAll}
 use Rattle.rounds.specs.Round.{Round}
 use Rattle.heads.specs.Link.{withState}
@@ -15,11 +14,10 @@ use Rattle.heads.specs.Progress.{withPhase}
 use Rattle.heads.specs.declared.link.Link.{Link}
 use Rattle.heads.specs.declared.link.State.{State}
 use Rattle.heads.specs.declared.progress.Phase.{Phase}
-use Rattle.heads.specs.declared.progress.Progress.{Progress}
 use Rattle.heads.specs.declared.stats.Stats.{Stats}
 use Rattle.engine.specs.Engine.{withLink, withProgress, withStats}
 use Rattle.engine.specs.declared.Engine.{Engine}
-use Rattle.board.specs.Board.{Board, boardIn, withAsked}
+use Rattle.board.specs.Board.{Board, boardIn}
 use Rattle.replies.specs.declared.reply.Reply.{Reply}
 use Rattle.replies.specs.declared.reply.Said.{Said}
 

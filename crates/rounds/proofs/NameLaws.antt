@@ -1,9 +1,8 @@
 -- A round that goes by the sort keys in memory is the round by lower-cased name.
-use mathlib.Core.Path.{_≡_, refl, ap, sym, _∙_}
-use mathlib.Core.Bool.{Bool, true, false, cond}
+use mathlib.Core.Path.{_≡_, refl, _∙_}
+use mathlib.Core.Bool.{Bool, true, false}
 use mathlib.Core.List.{List, [], _∷_}
-use Prim.Native.Nat.{ℕ, zero, suc, _≤_, _<_}
-use native.Mathlib.Omega.{arith}
+use Prim.Native.Nat.{ℕ, _≤_}
 use lib.Ieee.{Float, binary64, div}
 use lib.ListN.{length, take}
 use Rattle.ieee.specs.Round.{float}
@@ -21,7 +20,7 @@ use Rattle.slices.specs.Slice.{isTier2, tier2Tags}
 use Rattle.rounds.specs.Tick.{tickOf, boundaryAt}
 use Rattle.rounds.specs.Graces.{hasRunOut, expiredAt, runOut}
 use Rattle.rounds.specs.Due.{dueTags, marked}
-use Rattle.rounds.specs.Round.{Polling, Rooms, Round, round}
+use Rattle.rounds.specs.Round.{Polling, Rooms, round}
 use Rattle.rounds.specs.declared.tick.Options.{Options}
 
 -- ---- graces that run out keep the table listed

@@ -1,5 +1,5 @@
 -- The parts of a round, worked out one after the other in memory, are the round.
-use mathlib.Core.Path.{_≡_, refl, ap, sym, _∙_}
+use mathlib.Core.Path.{_≡_, ap, _∙_}
 use mathlib.Core.Bool.{Bool}
 use mathlib.Core.List.{List, _++_, map}
 use Prim.Native.Nat.{ℕ}
@@ -11,7 +11,7 @@ use Rattle.tags.proofs.ListLaws.{room-same}
 use Rattle.table.specs.Table.{tableIn}
 use Rattle.table.specs.declared.tag.Tag.{Tag}
 use Rattle.tiers.specs.Tiers.{Table, tabled}
-use Rattle.groups.specs.Groups.{Groups, grouped}
+use Rattle.groups.specs.Groups.{grouped}
 use Rattle.slices.specs.Room.{fitted}
 use Rattle.slices.specs.Slice.{tier2Tags, sliceTaken, nextIndex}
 use Rattle.rounds.specs.Tick.{tickOf, boundaryAt}

@@ -5,7 +5,6 @@ use Prim.Native.Nat.{ℕ, _+_, _-_, _%_}
 use lib.Dec.{eqb, ltb}
 use lib.Ieee.{binary64, ofBits}
 use lib.ListN.{getD, set}
-use Rattle.values.specs.declared.entry.Held.{Held}
 use Rattle.words.specs.Entry.{heldFrom}
 use Rattle.words.specs.declared.entry.EntryWords.{EntryWords}
 use Rattle.table.specs.declared.tag.Grace.{Grace}

@@ -1,5 +1,5 @@
 -- A tag of which nothing is known, and its parts.
-use mathlib.Core.Bool.{true, false}
+use mathlib.Core.Bool.{false}
 use lib.Ieee.{Float, binary64, ofBits}
 use Rattle.values.specs.declared.entry.Held.the-variants.{None}
 use Rattle.table.specs.declared.tag.Grace.{Grace}

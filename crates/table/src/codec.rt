@@ -1,6 +1,5 @@
 // A tag as a row of 32 cells and back.
 ghost use mathlib.Core.Path.{_≡_};
-ghost use lib.ListN.{getD};
 ghost use Rattle.table.specs.Row.{graceFrom, timingFrom, settingsFrom, descriptionFrom, tagFrom};
 use super::tag::Description;
 use super::tag::Grace;

@@ -13,7 +13,7 @@ use Rattle.results.specs.Results.{resultCount}
 use Rattle.descriptions.specs.Descriptions.{askedTags}
 use Rattle.board.specs.Regions.{regionsIn, part, boardSize}
 use Rattle.board.specs.Board.{Board, boardOf, boardIn, withAsked, withBack}
-use Rattle.talks.specs.Talks.{keptBack, describing}
+use Rattle.talks.specs.Talks.{keptBack}
 use Rattle.board.proofs.Laws.{part-length, part-before}
 use Rattle.board.proofs.PartLaws.{asked-put, back-put}
 

@@ -1,5 +1,5 @@
 -- The table that memory holds, part by part.
-use mathlib.Core.Path.{_≡_, refl, ap, sym, _∙_}
+use mathlib.Core.Path.{_≡_, refl, ap}
 use mathlib.Core.Bool.{Bool, true, false, cond}
 use mathlib.Core.List.{List}
 use Prim.Native.Nat.{ℕ, _-_, _/_, min}
@@ -10,10 +10,10 @@ use Rattle.memory.specs.Halves.{halvesIn}
 use Rattle.tags.specs.Lists.{listIn, room}
 use Rattle.values.specs.declared.entry.Held.the-variants.{None}
 use Rattle.table.specs.Tag.{f0, noTiming}
-use Rattle.table.specs.Table.{tableIn, withGrace, withTiming, withStanding, withoutLast, withoutReadings}
+use Rattle.table.specs.Table.{tableIn, withGrace, withStanding, withoutLast, withoutReadings}
 use Rattle.table.specs.declared.tag.Grace.{Grace}
 use Rattle.table.specs.declared.tag.Tag.{Tag}
-use Rattle.tiers.specs.Tiers.{Table, tabled, timingSet, addedSet, wantsSet, heldSet, tagSet, keptFor, setTable, setTier}
+use Rattle.tiers.specs.Tiers.{Table, tabled, timingSet, addedSet, wantsSet, tagSet, keptFor, setTable, setTier}
 
 pub same-room : (new old : List ℕ) → length new ≡ length old → room new ≡ room old
 same-room new old e = ap (λ (n : ℕ). min (n / 2 - 1) 65535) e

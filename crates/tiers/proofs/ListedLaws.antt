@@ -1,10 +1,10 @@
 -- Every tier change keeps the table listed.
-use mathlib.Core.Path.{_≡_, refl, ap, sym, _∙_, subst}
+use mathlib.Core.Path.{_≡_, refl, ap, sym, _∙_}
 use mathlib.Core.Bool.{Bool, true, false, not, cond}
 use mathlib.Core.List.{List, [], _∷_, _++_}
 use Prim.Native.Nat.{ℕ, zero, suc, _+_, _≤_, _<_}
 use native.Mathlib.Omega.{arith}
-use borrow.Author.Tests.{eqb-true, eqb-false, eq-eqb, ne-eqb, lt-ltb, ltb-true}
+use borrow.Author.Tests.{eqb-true, eqb-false, eq-eqb, ne-eqb, lt-ltb}
 use lib.Dec.{eqb, ltb}
 use lib.Ieee.{Float, le, add, binary64}
 use lib.ListN.{length, getD, set, length-set, List·getD-eq-default}
@@ -17,7 +17,7 @@ use Rattle.table.specs.Tag.{f0, noGrace, freshTag}
 use Rattle.table.specs.Table.{withGrace}
 use Rattle.table.specs.declared.tag.Grace.{Grace}
 use Rattle.table.specs.declared.tag.Tag.{Tag}
-use Rattle.tiers.specs.Tiers.{Table, tagAt, isBit, tagSet, orderSet, graceEnded, putTable, setTable, withTagGraces, graceUntil, enterGrace, changedTags, changeGrace, setTier}
+use Rattle.tiers.specs.Tiers.{Table, tagAt, isBit, tagSet, orderSet, graceEnded, putTable, setTable, withTagGraces, graceUntil, enterGrace, changeGrace, setTier}
 use Rattle.tiers.specs.Listed.{inTier, Listed}
 
 few-in : (n : ℕ) → inTier n ≤ 1

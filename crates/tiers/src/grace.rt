@@ -1,6 +1,6 @@
 // Tier calls, and the graces of tags that leave tier 1.
 ghost use mathlib.Core.Path.{_≡_};
-ghost use Rattle.tiers.specs.Tiers.{tabled, enterGrace, changeGrace, changedTags, setTier};
+ghost use Rattle.tiers.specs.Tiers.{tabled, enterGrace, changedTags, setTier};
 ghost use Rattle.table.specs.Table.{tableIn};
 use super::set::put;
 use super::set::set;

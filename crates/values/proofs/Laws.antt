@@ -1,7 +1,7 @@
 -- Laws of the definitions of rules 2 and 3.
-use mathlib.Core.Path.{_≡_, refl, sym, ap, _∙_}
+use mathlib.Core.Path.{_≡_, refl, sym, ap}
 use mathlib.Core.Bool.{Bool, true, false, _&&_, true≢false}
-use Prim.Native.Nat.{ℕ, zero, suc, _+_, _-_, _^_, _<_, _≤_}
+use Prim.Native.Nat.{ℕ, suc, _-_, _^_, _<_}
 use native.Mathlib.Omega.{arith}
 use borrow.Author.Tests.{eqb-true, eqb-false, eq-eqb, ne-eqb}
 use lib.Dec.{eqb}
@@ -12,7 +12,6 @@ use Rattle.values.specs.Value.{sameInteger}
 use Rattle.values.specs.Error.{kindNumber, sameError}
 use Rattle.values.specs.declared.error.ErrorKind.{ErrorKind}
 use Rattle.values.specs.declared.error.ErrorKind.the-variants.{NotFound, Access, Other}
-use Rattle.values.specs.declared.error.TagError.{TagError}
 use Rattle.values.specs.declared.error.Error.{Error}
 use Rattle.values.specs.declared.error.Error.the-variants.{None, Is}
 

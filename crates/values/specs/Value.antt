@@ -1,6 +1,5 @@
 -- Rule 2: values.
 use mathlib.Core.Bool.{Bool, true, false, Bool·beq}
-use Prim.Native.Nat.{ℕ}
 use lib.Dec.{eqb}
 use lib.IntN.{ℤ, pos, negsuc}
 use lib.Ieee.{Float, fin, binary64, ofInt, eq}

@@ -1,24 +1,24 @@
 -- The tests of the code on floats and signed integers, as facts of their bits.
 use mathlib.Core.Path.{_≡_, refl, ap, sym, _∙_}
 use mathlib.Core.Bool.{Bool, true, false, not, cond}
-use Prim.Native.Nat.{ℕ, zero, suc, _+_, _-_, _*_, _/_, _%_, _≤_, _<_, _^_}
+use Prim.Native.Nat.{ℕ, _+_, _-_, _%_, _≤_, _<_, _^_}
 use native.Mathlib.Omega.{arith}
-use lib.Dec.{T, ltb, lit<}
-use lib.IntN.{ℤ, pos, negsuc, natAbs}
-use lib.Signed.{nonNeg, ltZ}
+use lib.Dec.{T}
+use lib.IntN.{ℤ, pos, negsuc}
+use lib.Signed.{ltZ}
 use lib.Ieee.{Float, nan, inf, fin, binary64, ne, isNan, toBits, ofBits, nanBits, div}
 use lib.Ieee.Compare.{differs-from-itself, nan-differs}
 use lib.Ieee.Bits.{nanBits-is, nanBits-above}
 use denote.Floats.{passes}
 use borrow.Author.Tests.{lt-ltb, le-ltb, ltb-true, ne-eqb}
 use native.Mathlib.Nat.{mod-eq-of-lt}
-use mir.Val.{Fits, SFits, ofZ, toZ, boolByte}
+use mir.Val.{SFits, ofZ, toZ, boolByte}
 use mir.Syntax.{w64}
 use mir.Facts.{toZ-pos, toZ-ofZ}
 use Rattle.values.specs.Entry.{qualityNumber}
 use Rattle.values.specs.declared.value.Value.{Value}
 use Rattle.values.specs.declared.value.Value.the-variants.{Bool as Flag}
-use Rattle.values.specs.declared.error.ErrorKind.the-variants.{NotFound, Access, Other}
+use Rattle.values.specs.declared.error.ErrorKind.the-variants.{NotFound, Other}
 use Rattle.values.specs.declared.error.TagError.{TagError}
 use Rattle.values.specs.declared.error.Error.the-variants.{Is as IsError}
 use Rattle.values.specs.declared.entry.Quality.{Quality}

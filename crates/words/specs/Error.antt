@@ -5,7 +5,6 @@ use lib.Dec.{eqb, ltb}
 use Rattle.values.specs.Error.{kindNumber}
 use Rattle.values.specs.declared.error.ErrorKind.{ErrorKind}
 use Rattle.values.specs.declared.error.ErrorKind.the-variants.{NotFound, Access, Other}
-use Rattle.values.specs.declared.error.TagError.{TagError}
 use Rattle.values.specs.declared.error.Error.{Error}
 use Rattle.values.specs.declared.error.Error.the-variants.{None, Is}
 use Rattle.words.specs.declared.error.ErrorWords.{ErrorWords}

@@ -1,16 +1,16 @@
 -- Rule 9: what each answer of the host comes to.
 use mathlib.Core.Bool.{Bool, true, false, not, _&&_, _||_, cond}
-use mathlib.Core.List.{List, [], _∷_}
+use mathlib.Core.List.{List, []}
 use mathlib.Core.Path.{_≡_}
-use Prim.Native.Nat.{ℕ, _*_, _/_}
-use lib.Dec.{eqb, ltb, leb}
-use lib.Ieee.{Float, lt}
+use Prim.Native.Nat.{ℕ, _/_}
+use lib.Dec.{eqb, ltb}
+use lib.Ieee.{lt}
 use lib.ListN.{length, take}
 use Rattle.ieee.specs.Times.{clockOk}
 use Rattle.values.specs.declared.value.Value.the-variants.{Null}
-use Rattle.results.specs.Results.{resultCount, resultsOk}
+use Rattle.results.specs.Results.{resultsOk}
 use Rattle.settings.specs.Settings.{settingsOk}
-use Rattle.versions.specs.Versions.{isChanged, isReloaded, versionTable}
+use Rattle.versions.specs.Versions.{isReloaded, versionTable}
 use Rattle.versions.specs.declared.version.Version.{Version as Number}
 use Rattle.versions.specs.declared.version.Version.the-variants.{Null as Unknown, Is as Known}
 use Rattle.descriptions.specs.Descriptions.{learnt, learntNone}
@@ -22,8 +22,8 @@ use Rattle.heads.specs.declared.progress.After.the-variants.{Tail, Idle, End}
 use Rattle.heads.specs.declared.progress.Phase.{Phase}
 use Rattle.heads.specs.declared.progress.Phase.the-variants.{Begin, Connect, OpenVersion, Version, Read, Describe, Write, ReadBack, Wait, Backoff, OpenFailedTold, OpenMetaTold, ConnectedTold, MetaTold, ValuesTold, InfoTold, RefusedTold, LostTold, OutcomeTold, BackTold, FailedTold, StaleTold, DisconnectedTold, ConnectingTold, Stopped}
 use Rattle.engine.specs.Engine.{withClock}
-use Rattle.board.specs.Board.{Board, withRecords, withAsked, withBack}
-use Rattle.polls.specs.Polls.{Changed, appliedTo, changesIn}
+use Rattle.board.specs.Board.{withRecords, withAsked}
+use Rattle.polls.specs.Polls.{appliedTo, changesIn}
 use Rattle.talks.specs.Talks.{keptBack}
 use Rattle.replies.specs.declared.reply.Said.{Said}
 use Rattle.replies.specs.Reply as reply

@@ -1,4 +1,4 @@
-use mathlib.Core.Path.{_≡_, ap, _∙_}
+use mathlib.Core.Path.{ap, _∙_}
 use denote.Ref.{now}
 use Rattle.memory.specs.Cells.{rowsIn, noRow}
 use Rattle.memory.proofs.RowLaws.{row-long}

@@ -1,9 +1,9 @@
 -- `board::parts::groups_copied` meets its contract.
-use mathlib.Core.Path.{_≡_, refl, sym, _∙_}
+use mathlib.Core.Path.{_≡_, refl}
 use Prim.Native.Nat.{_≤_, _-_}
 use native.Mathlib.Omega.{arith}
 use denote.Ref.{now}
-use lib.ListN.{replicate, length}
+use lib.ListN.{replicate}
 use lib.Seq.{paste}
 use Rattle.memory.proofs.LoopLaws.{fill-more, fill-all}
 use Rattle.board.proofs.parts.groups_copied.Statement.{statement}

@@ -2,7 +2,7 @@
 use Rattle.capi.proofs.CallLaws.{alien-step, refused-step, done-step}
 use Rattle.capi.specs.Calls.{answerOf, SteppedBoard}
 use Rattle.capi.specs.Memory.{workerIn}
-use Rattle.replies.specs.Worker.{Told, At, at, worker}
+use Rattle.replies.specs.Worker.{at, worker}
 use Rattle.worker.specs.Answers.{Answer, step}
 use Rattle.engine.specs.declared.Engine.{Engine}
 use Rattle.replies.specs.declared.reply.Said.{Said}
@@ -12,7 +12,6 @@ use lib.ListN.{length}
 use mir.Facts.{toZ-ofZ}
 use mir.Syntax.{w64}
 use mir.Val.{SFits, toZ, ofZ}
-use mathlib.Core.Path.{ap, ap₂, sym, _∙_}
 use denote.Ref.{now}
 use borrow.Author.Needs.{needs}
 use Rattle.capi.proofs.calls.wz_step.Statement.{statement}

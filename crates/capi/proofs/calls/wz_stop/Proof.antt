@@ -6,7 +6,7 @@ use Rattle.heads.specs.declared.link.Link.{Link}
 use Rattle.heads.specs.Link.{stopped}
 use Rattle.engine.specs.declared.Engine.{Engine}
 use Rattle.engine.specs.Engine.{withLink}
-use mathlib.Core.Path.{refl, ap, sym, _∙_}
+use mathlib.Core.Path.{refl, ap, _∙_}
 use denote.Ref.{now}
 use borrow.Author.Needs.{needs}
 use Rattle.capi.proofs.calls.wz_stop.Statement.{statement}

@@ -1,5 +1,4 @@
 -- `cases::rule10::each` is safe and ends.
-use mathlib.Core.Path.{_≡_}
 use Prim.Native.Nat.{_≤_, _-_}
 use native.Mathlib.Omega.{arith}
 use borrow.Author.Needs.{needs}

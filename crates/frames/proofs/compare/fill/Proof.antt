@@ -4,7 +4,7 @@ use Prim.Native.Nat.{_≤_, _-_}
 use native.Mathlib.Omega.{arith}
 use borrow.Author.Needs.{needs}
 use lib.ListN.{length, replicate, length-set, length-replicate, getD-replicate}
-use lib.Seq.{paste, paste-zero}
+use lib.Seq.{paste}
 use Rattle.memory.proofs.LoopLaws.{fill-more, fill-all}
 use Rattle.frames.proofs.compare.fill.Statement.{statement}
 use Rattle.frames.proofs.compare.fill.Tie as tie

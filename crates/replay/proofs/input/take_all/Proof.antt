@@ -1,6 +1,5 @@
 -- Invariant: what is lent stays as long as it was. Measure: the turns that are left.
-use mathlib.Core.Path.{_≡_, refl, _∙_}
-use native.Mathlib.Omega.{arith}
+use mathlib.Core.Path.{_≡_, refl}
 use borrow.Author.Needs.{needs}
 use lib.ListN.{length}
 use Rattle.replay.proofs.input.take_all.Statement.{statement}

@@ -1,5 +1,5 @@
 -- `replies::losing::disconnected` meets its contract.
-use mathlib.Core.Path.{_≡_, refl, sym, _∙_}
+use mathlib.Core.Path.{_≡_, sym, _∙_}
 use mathlib.Core.Bool.{true, false}
 use Rattle.heads.specs.Link.{isState}
 use Rattle.heads.specs.declared.link.State.the-variants.{Disconnected}

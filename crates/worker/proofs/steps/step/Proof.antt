@@ -1,7 +1,5 @@
 -- `worker::steps::step` meets its contract.
-use mathlib.Core.Path.{_≡_, refl, ap, sym, _∙_}
-use mathlib.Core.Bool.{true, false}
-use lib.Dec.{eqb}
+use mathlib.Core.Path.{_≡_, refl, ap, _∙_}
 use lib.ListN.{length}
 use mathlib.Core.List.{[]}
 use denote.Ref.{now}
