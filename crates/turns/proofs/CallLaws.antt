@@ -2,14 +2,14 @@
 use mathlib.Core.Path.{_≡_, refl, ap, sym, _∙_}
 use mathlib.Core.Bool.{Bool, true, false, not, cond, _||_, _&&_, true≢false}
 use mathlib.Core.List.{List, [], _∷_}
-use Prim.Native.Nat.{ℕ, zero, suc, _+_, _*_, _≤_, _<_}
+use Prim.Native.Nat.{ℕ, suc, _+_, _*_, _≤_, _<_}
 use native.Mathlib.Omega.{arith}
 use lib.Dec.{eqb, ltb}
 use lib.Dec as Clock
 use lib.Ieee.{Float, ofBits, le, lt}
 use lib.Ieee.Scale.{finite}
 use lib.ListN.{length, getD, drop, replicate, length-take, length-drop, length-replicate, getD-replicate, List·getD-eq-default}
-use borrow.Author.Tests.{leb-false, eqb-true, ne-eqb, ltb-true, ltb-false}
+use borrow.Author.Tests.{leb-false, eqb-true, ltb-true, ltb-false}
 use Rattle.lists.specs.Keep.{count, Below}
 use Rattle.lists.proofs.KeepLaws.{below-more}
 use Rattle.ieee.specs.Round.{slicesOf}
@@ -37,9 +37,10 @@ use Rattle.histories.specs.Respects.{Respects}
 use Rattle.board.specs.Creation.{freshBoard, freshWords, tagRoom}
 use Rattle.replies.specs.Worker.{Worker, at}
 use Rattle.capi.specs.Calls.{tiered, wrote, halted, answerOf}
-use Rattle.checks.specs.Calls.{clockCheck, noTag, first, tierCheck, loadCheck, writeCheck}
+use Rattle.checks.specs.Calls.{clockCheck, noTag, tierCheck, loadCheck, writeCheck}
 use Rattle.capi.specs.Calls as calls
 use Rattle.checks.specs.Creation.{Setup, creationCheck}
+use Rattle.checks.proofs.Laws.{first-zero}
 use Rattle.capi.specs.Creation.{freshWorker}
 use Rattle.turns.specs.Calls.{Call, tier, load, steps, write, stop, lookState, lookStats, lookCounts, lookGroups, lookTable, lookPanel, lookTag, accepted, after}
 use Rattle.turns.specs.Demand.{roundIn, event, Moment, moment}
@@ -48,11 +49,6 @@ use Rattle.turns.proofs.InsideLaws.{inside-tier, inside-loaded, entries
 use Rattle.turns.proofs.KeepLaws.{Keeps, index-kept, keeps-all, taken-tiers}
 use Rattle.turns.proofs.StillLaws.{keeps-refl}
 use Rattle.turns.proofs.SoundLaws.{Sound, LastPast, finite-number, indexOf, listedOf, listed-kept, sound-kept, sound-step, respects-step}
-
--- two checks in a row that refuse nothing
-pub first-zero : (n m : ℕ) → first n m ≡ 0 → (n ≡ 0) × (m ≡ 0)
-first-zero zero m e = (refl, e)
-first-zero (suc n) m e = let z : eqb (suc n) 0 ≡ false = ne-eqb (suc n) 0 (λ q. omega arith) in absurd (let x : suc n ≡ 0 = rw z at e in omega arith)
 
 -- check 23 refuses nothing
 tag-found : (b c : Bool) → _≡_ {A = ℕ} (cond b 23 (cond c 24 0)) 0 → b ≡ false

@@ -71,7 +71,7 @@ load-settings T (k ∷ ks) (t ∷ ts) grace clock = load-settings (setTier T k t
 -- ---- settings that check 14 lets in
 
 -- both tests of two are met
-both : (a b : Bool) → (a && b) ≡ true → (a ≡ true) × (b ≡ true)
+pub both : (a b : Bool) → (a && b) ≡ true → (a ≡ true) × (b ≡ true)
 both true true e = (refl, refl)
 both true false e = absurd (true≢false (sym e))
 both false b e = absurd (true≢false (sym e))

@@ -34,6 +34,7 @@ use Rattle.board.specs.Board.{Board}
 use Rattle.checks.specs.Calls.{maxWrites}
 use Rattle.uncut.specs.Uncut.{groupsRoomed}
 use Rattle.turns.proofs.TierLaws.{settingsOf}
+use Rattle.turns.proofs.RateLaws.{both}
 
 -- ---- lists and rooms
 
@@ -60,11 +61,6 @@ numbered-same a b e r k =
     let s : getD a k freshTag .settings ≡ getD b k freshTag .settings
     = sym (map-at settingsOf a k freshTag) ∙ ap (λ (l : List Settings). getD l k noSettings) e ∙ map-at settingsOf b k freshTag in
     rw s (r k)
-
-both : (a b : Bool) → (a && b) ≡ true → (a ≡ true) × (b ≡ true)
-both true true e = (refl, refl)
-both true false e = absurd (true≢false (sym e))
-both false b e = absurd (true≢false (sym e))
 
 -- Check 14: a setting
 numbered-setting : (ws : List ℕ) → settingOk ws ≡ true → settingFrom ws .group < maxGroups

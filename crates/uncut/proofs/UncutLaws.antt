@@ -1,6 +1,6 @@
 -- No list is ever cut: every call of an engine comes to the same with more room.
 use mathlib.Core.Path.{_≡_, refl, ap, sym, _∙_}
-use mathlib.Core.Bool.{Bool, true, false, not, _&&_, cond, true≢false}
+use mathlib.Core.Bool.{Bool, true, false, not, _&&_, cond}
 use mathlib.Core.List.{List, [], _∷_, _++_, map}
 use mathlib.Core.Option.{some}
 use Prim.Native.Nat.{ℕ, zero, suc, _*_, _/_, _%_, _≤_, _<_}
@@ -50,6 +50,7 @@ use Rattle.checks.specs.Calls.{clockCheck, noTag, tierCheck, loadCheck, writeCh
 use Rattle.capi.specs.Calls.{tiered, writeOf, wrote, answerOf}
 use Rattle.capi.specs.Calls as calls
 use Rattle.checks.specs.Creation.{Setup, creationCheck}
+use Rattle.checks.proofs.Laws.{first-zero}
 use Rattle.capi.specs.Creation.{freshWorker}
 use Rattle.turns.specs.Calls.{Call, tier, load, steps, write, stop, lookState, lookStats, lookCounts, lookGroups, lookTable, lookPanel, lookTag, Answer as Said, accepted, answer, after}
 use Rattle.turns.specs.Demand.{Moment, moment}
@@ -59,7 +60,8 @@ use Rattle.turns.proofs.KeepLaws.{Keeps}
 use Rattle.turns.proofs.StillLaws.{still-writing, still-handled}
 use Rattle.turns.proofs.StepLaws.{Accepted, accepted-step, step-cases}
 use Rattle.turns.proofs.SoundLaws.{Sound, sound-kept, sound-clocked}
-use Rattle.turns.proofs.CallLaws.{first-zero, tier-inside, panel-inside, names-few, settings-good, sound-fresh, sound-after}
+use Rattle.turns.proofs.RateLaws.{both}
+use Rattle.turns.proofs.CallLaws.{tier-inside, panel-inside, names-few, settings-good, sound-fresh, sound-after}
 use Rattle.uncut.proofs.FitLaws.{isGraced, numbered-taken, FitTable, numbersOf, Fits}
 use Rattle.uncut.proofs.RoomLaws.{tier-roomed, fit-tier, load-roomed, whole}
 use Rattle.uncut.proofs.AlikeLaws.{each-kept, fits-queue, Alike, alike-tell, alike-finished, alike-handled}
@@ -279,11 +281,6 @@ fresh-grace : (m k : ℕ) → getD (map isGraced (replicate m freshTag)) k false
 fresh-grace zero k = refl
 fresh-grace (suc m) zero = refl
 fresh-grace (suc m) (suc k) = fresh-grace m k
-
-both : (a b : Bool) → (a && b) ≡ true → (a ≡ true) × (b ≡ true)
-both true true e = (refl, refl)
-both true false e = absurd (true≢false (sym e))
-both false b e = absurd (true≢false (sym e))
 
 -- Check 14: the groups configured
 groups-good : (s : Setup) → creationCheck s ≡ 0 → configuredOk (s .groups) ≡ true
