@@ -181,11 +181,17 @@ static int clock_number(double clock)
     return clock < model.clock ? 22 : 0;
 }
 
+/* Of its cell the low half alone. */
+static int rate_ok(uint64_t rate)
+{
+    return (uint32_t)rate != 0;
+}
+
 static int setting_ok(const uint8_t *s)
 {
     double band;
     memcpy(&band, s, 8);
-    return isfinite(band) && (cell(s, 1) == 0 || (cell(s, 1) <= 16 && cell(s, 2) > 0 && cell(s, 2) >> 32 == 0));
+    return isfinite(band) && (cell(s, 1) == 0 || (cell(s, 1) <= WZ_GROUP(15) && rate_ok(cell(s, 2))));
 }
 
 static int settings_ok(const uint8_t *s, size_t len, size_t count)
@@ -201,7 +207,7 @@ static int groups_ok(const uint8_t *g, size_t len)
 {
     size_t i;
     for (i = 0; i < len / WZ_CONFIGURED; i++)
-        if (cell(g, 2 * i) > 15 || cell(g, 2 * i + 1) == 0 || cell(g, 2 * i + 1) >> 32 != 0)
+        if (cell(g, 2 * i) > 15 || !rate_ok(cell(g, 2 * i + 1)))
             return 0;
     return len % WZ_CONFIGURED == 0 && len / WZ_CONFIGURED <= 16;
 }
@@ -244,13 +250,13 @@ static int directory_number(const uint8_t *names, size_t len, const uint32_t *en
     return 0;
 }
 
-static int options_number(const double *o)
+static int options_number(wz_options o)
 {
-    if (!(o[0] == 0 || (o[0] >= 0.001 && o[0] <= 3600)))
+    if (!(o.cycle == 0 || (o.cycle >= 0.001 && o.cycle <= 3600)))
         return 11;
-    if (!(o[1] >= 0 && o[1] <= 86400))
+    if (!(o.period >= 0 && o.period <= 86400))
         return 12;
-    return o[2] >= 0 && o[2] <= 86400 ? 0 : 13;
+    return o.grace >= 0 && o.grace <= 86400 ? 0 : 13;
 }
 
 static int panel_number(const uint8_t *p, size_t len)
@@ -355,6 +361,12 @@ static void harm(int s)
         x->at[below(x->len)] = (uint8_t)draw();
 }
 
+/* The cell of a rate; its other four bytes are not looked at. */
+static uint64_t a_rate(uint64_t most)
+{
+    return (once(60) ? 0 : 1 + below(most)) | (once(3) ? draw() << 32 : 0);
+}
+
 static void lend_settings(int s, size_t count)
 {
     const double bands[] = {0, 0.5, 1, -1};
@@ -364,7 +376,7 @@ static void lend_settings(int s, size_t count)
     for (i = 0; i < n / WZ_SETTING; i++) {
         put_cell(at, 4 * i, bits(bands[below(4)]));
         put_cell(at, 4 * i + 1, once(2) ? 0 : 1 + below(16));
-        put_cell(at, 4 * i + 2, 1 + below(3000));
+        put_cell(at, 4 * i + 2, a_rate(3000));
         put_cell(at, 4 * i + 3, below(2));
     }
     harm(s);
@@ -377,7 +389,7 @@ static void lend_groups(void)
     fill(GROUPS);
     for (i = 0; i < n / WZ_CONFIGURED; i++) {
         put_cell(at, 2 * i, below(16));
-        put_cell(at, 2 * i + 1, 1 + below(5000));
+        put_cell(at, 2 * i + 1, a_rate(5000));
     }
     harm(GROUPS);
 }
@@ -467,7 +479,7 @@ static size_t listed(uint64_t count, size_t record)
 
 static void call_create(void)
 {
-    double o[3] = {an_option(), an_option(), an_option()};
+    wz_options o = {an_option(), an_option(), an_option()};
     size_t count = once(20) ? below(125) : 1 + below(9);
     int want = 0;
     lend_directory(count);
@@ -482,7 +494,7 @@ static void call_create(void)
         want = 14;
     done(CREATE,
          wz_create(lent(MEM), slots[MEM].len, lent(NAMES), slots[NAMES].len, (const uint32_t *)(void *)lent(ENDS),
-                   count, o[0], o[1], o[2], lent(SETTINGS), slots[SETTINGS].len, lent(GROUPS), slots[GROUPS].len),
+                   count, o, lent(SETTINGS), slots[SETTINGS].len, lent(GROUPS), slots[GROUPS].len),
          want, 0);
     if (want == 0 && slots[MEM].len == WZ_MEMORY) {
         memset(&model, 0, sizeof model);
@@ -546,10 +558,19 @@ static void check_reply(const wz_reply *r)
     if ((r->code == 0) != (r->kind >= 1 && r->kind <= 14))
         wrong(STEP, "a kind that is none", r->kind, 0);
     if ((!(has & 1) && r->count != 0) || (!(has & 2) && r->tag != 0) || (!(has & 4) && r->what != 0) ||
-        (!(has & 8) && (r->value != 0 || r->word != 0)) || (!(has & 16) && (r->error != 0 || r->message != 0)) ||
+        (!(has & 8) && (r->value.kind | r->value.word) != 0) || (!(has & 16) && (r->error.kind | r->error.message) != 0) ||
         (!(has & 32) && bits(r->seconds) != 0))
         wrong(STEP, "a field that this kind does not have", r->kind, 0);
     replies[!real][r->kind]++;
+}
+
+/* The last two cells of each entry told are 0. */
+static void check_changes(size_t bytes)
+{
+    size_t i;
+    for (i = 0; i < bytes / WZ_CHANGE; i++)
+        if ((cell(slots[OUT].at, 9 * i + 7) | cell(slots[OUT].at, 9 * i + 8)) != 0)
+            wrong(STEP, "one of the two cells that are 0, in change", i, 0);
 }
 
 static void follow(double clock, const wz_reply *r)
@@ -580,6 +601,7 @@ static void call_step(void)
     r = wz_step(lent(MEM), slots[MEM].len, clock, (int64_t)draw(), kind, number, message, lent(LIST), slots[LIST].len,
                 lent(OUT), slots[OUT].len);
     check_reply(&r);
+    check_changes(r.kind == WZ_VALUES ? listed(r.count, WZ_CHANGE) : 0);
     done(STEP, r.code, real ? want : -1, listed(r.count, r.kind == WZ_VALUES ? WZ_CHANGE : WZ_LISTED));
     if (real && want == 0)
         follow(clock, &r);
@@ -603,11 +625,15 @@ static void look(int call, size_t room, size_t record, wz_list_look (*f)(const u
 static void call_tag(void)
 {
     uint32_t tag = (uint32_t)(once(9) ? draw() : below(model.count + 2));
-    wz_tag_look r;
+    wz_tag_look r, refused;
     keep();
     r = wz_tag(lent(MEM), slots[MEM].len, tag);
-    if (r.code != 0 && (r.tier | r.held | r.kind | r.word | r.t | r.error | r.message | r.description) != 0)
+    memset(&refused, 0, sizeof refused);
+    refused.code = r.code;
+    if (r.code != 0 && memcmp(&r, &refused, sizeof r) != 0)
         wrong(TAG, "a field with a refusal", r.code, 0);
+    if (r.entry.has_g != 0 || r.entry.g != 0)
+        wrong(TAG, "one of the two cells that are 0", r.entry.has_g, 0);
     done(TAG, r.code, real ? (tag >= model.count ? 23 : 0) : -1, 0);
 }
 

@@ -3,21 +3,27 @@
  * reloads, tier calls and looks. Fails above STACK_LIMIT, the number in docs/HOST.md. */
 #define _XOPEN_SOURCE 700
 #include "../wordzike.h"
-#include "cells.h"
 #include <stdio.h>
+#include <string.h>
 #include <ucontext.h>
 
 #define STACK 65536
 #define STACK_LIMIT 16384
 #define FILL 0xa5
 
-enum { CREATE, LOAD, SET_TIER, WRITE, STOP, STEP, GROUPS, TABLE, PANEL, TAG, STATE, STATS, COUNTS, CALLS };
-static const char *const called[CALLS] = {"wz_create", "wz_load",        "wz_set_tier", "wz_write", "wz_stop",
-                                          "wz_step",   "wz_group_stats", "wz_table",    "wz_panel", "wz_tag",
-                                          "wz_state",  "wz_stats",       "wz_tier_counts"};
+enum { CREATE, LOAD, SET_TIER, WRITE, STOP, STEP, GROUPS, TABLE, PANEL, TAG, STATE, STATS, COUNTS, INTERFACE, CALLS };
+static const char *const called[CALLS] = {"wz_create", "wz_load",        "wz_set_tier",    "wz_write", "wz_stop",
+                                          "wz_step",   "wz_group_stats", "wz_table",       "wz_panel", "wz_tag",
+                                          "wz_state",  "wz_stats",       "wz_tier_counts", "wz_interface"};
 
-static uint8_t mem[WZ_MEMORY], out[WZ_LIST], list[WZ_TAGS * WZ_RESULT], settings[WZ_TAGS * WZ_SETTING];
-static uint8_t names[WZ_TAGS * 4], panel[WZ_PANEL_LIST], stack[STACK];
+static union {
+    uint8_t bytes[WZ_TAGS * WZ_SETTING];
+    wz_setting settings[WZ_TAGS];
+    wz_result results[WZ_TAGS];
+} list;
+static uint8_t mem[WZ_MEMORY], out[WZ_LIST], names[WZ_TAGS * 4], panel[WZ_PANEL_LIST], stack[STACK];
+static wz_setting settings[WZ_TAGS];
+static const wz_options options = {0.5, 5.0, 4.0};
 static uint32_t ends[WZ_TAGS];
 static ucontext_t here, there;
 static size_t deepest[CALLS];
@@ -39,7 +45,7 @@ static void call(void)
 {
     switch (what) {
     case CREATE:
-        reply.code = wz_create(mem, sizeof mem, names, sizeof names, ends, WZ_TAGS, 0.5, 5.0, 4.0, settings,
+        reply.code = wz_create(mem, sizeof mem, names, sizeof names, ends, WZ_TAGS, options, (const uint8_t *)settings,
                                sizeof settings, NULL, 0);
         break;
     case LOAD: reply.code += wz_load(mem, sizeof mem, clock_now, panel, sizeof panel); break;
@@ -47,8 +53,8 @@ static void call(void)
     case WRITE: (void)wz_write(mem, sizeof mem, (uint32_t)tag, WZ_INT, number); break;
     case STOP: (void)wz_stop(mem, sizeof mem); break;
     case STEP:
-        reply = wz_step(mem, sizeof mem, clock_now, (int64_t)(clock_now * 1000), kind, number, 0, list, bytes, out,
-                        sizeof out);
+        reply = wz_step(mem, sizeof mem, clock_now, (int64_t)(clock_now * 1000), kind, number, 0, list.bytes, bytes,
+                        out, sizeof out);
         break;
     case GROUPS: (void)wz_group_stats(mem, sizeof mem, out, sizeof out); break;
     case TABLE: (void)wz_table(mem, sizeof mem, out, sizeof out); break;
@@ -56,7 +62,8 @@ static void call(void)
     case TAG: (void)wz_tag(mem, sizeof mem, (uint32_t)tag); break;
     case STATE: (void)wz_state(mem, sizeof mem); break;
     case STATS: (void)wz_stats(mem, sizeof mem); break;
-    default: (void)wz_tier_counts(mem, sizeof mem); break;
+    case COUNTS: (void)wz_tier_counts(mem, sizeof mem); break;
+    default: (void)wz_interface(); break;
     }
 }
 
@@ -84,10 +91,11 @@ static void results(void)
 {
     uint64_t i;
     for (i = 0; i < reply.count; i++) {
-        put_cell(list, 4 * (size_t)i, WZ_INT);
-        put_cell(list, 4 * (size_t)i + 1, below(3));
-        put_cell(list, 4 * (size_t)i + 2, below(20) == 0 ? 1 + below(5) : 0);
-        put_cell(list, 4 * (size_t)i + 3, 0);
+        wz_result *r = &list.results[i];
+        r->value.kind = WZ_INT;
+        r->value.word = below(3);
+        r->error.kind = below(20) == 0 ? 1 + below(5) : 0;
+        r->error.message = 0;
     }
     bytes = (size_t)reply.count * WZ_RESULT;
 }
@@ -101,7 +109,7 @@ static void answer(void)
     case WZ_VERSION:
         kind = WZ_VERSION_IS;
         number = 1 + (below(50) == 0);
-        memcpy(list, settings, sizeof settings);
+        memcpy(list.settings, settings, sizeof settings);
         bytes = sizeof settings;
         break;
     case WZ_READ:
@@ -133,8 +141,8 @@ static void made(void)
         memcpy(names + end, name, (size_t)length);
         end += (uint32_t)length;
         ends[i] = end;
-        put_cell(settings, (size_t)(4 * i + 1), (uint64_t)(i % 17)); /* a group, or none */
-        put_cell(settings, (size_t)(4 * i + 2), 500);
+        settings[i].group = (uint64_t)(i % 17); /* a group, or none */
+        settings[i].rate = 500;
         panel[1 + i] = (uint8_t)i;
         panel[1 + WZ_TAGS + i] = (uint8_t)(1 + i % 3);
     }
