@@ -16,6 +16,22 @@ fn reading() -> Engine {
     engine
 }
 
+/// The number that the header has behind `#define NAME`.
+fn defined(name: &str) -> u64 {
+    let header = include_str!("../../include/wordzike.h");
+    let numbers =
+        header.lines().filter_map(|line| line.strip_prefix("#define ")?.strip_prefix(name)?.strip_prefix(' '));
+    let mut numbers = numbers.filter_map(|rest| rest.split(' ').next()?.parse().ok());
+    numbers.next().unwrap_or_else(|| panic!("the header has no number {name}"))
+}
+
+#[test]
+fn the_interface_is_the_archives_and_the_headers() {
+    assert_eq!(interface(), INTERFACE);
+    assert_eq!(defined("WZ_INTERFACE"), INTERFACE);
+    assert_eq!(["WZ_TAGS", "WZ_GROUPS", "WZ_MEMORY"].map(defined), [TAGS, GROUPS, MEMORY].map(|n| n as u64));
+}
+
 fn number<T: std::fmt::Debug>(refused: Result<T, Refusal>) -> u64 {
     refused.unwrap_err().number()
 }
