@@ -1,10 +1,10 @@
 //! Calls for `oracle record` that no history has: creation's refusals, lent memory and lists of other lengths, panel lists. Beside
 //! each is the number that document 01's table gives it (100, for memory that is no engine's, is docs/DECISIONS.md's).
 
-use wordzike::{MEMORY, ffi};
+use wordzike::{GROUPS, MEMORY, TAGS, ffi};
 
 const NAN: f64 = f64::NAN;
-const LIST: usize = 120 * 56;
+const LIST: usize = TAGS * 72;
 
 /// What creation is given; as it stands it is good.
 #[derive(Clone)]
@@ -45,7 +45,9 @@ fn want(number: u64, got: u64, what: &str) {
 }
 
 fn create_in(mem: &mut [u8], g: &Given) -> u64 {
-    ffi::create(mem, &g.names, &g.ends, g.options, &bytes(&g.settings), &bytes(&g.groups)).into()
+    let [cycle, period, grace] = g.options;
+    let options = ffi::Options { cycle, period, grace };
+    ffi::create(mem, &g.names, &g.ends, options, &bytes(&g.settings), &bytes(&g.groups)).into()
 }
 
 /// A creation that is refused leaves the engine that was there.
@@ -124,6 +126,9 @@ fn settings() {
         ..two()
     };
     want(0, create_in(&mut vec![0; MEMORY], &last), "group 15, and the greatest rate");
+    let beside =
+        Given { settings: [[0; 4], [0, 4, 1 << 63 | 500, 1]].concat(), groups: vec![3, 1 << 32 | 500], ..two() };
+    want(0, create_in(&mut vec![0; MEMORY], &beside), "bytes beside a rate, which are not looked at");
 }
 
 /// Memory that is no engine's, for every call; it comes before all else, a list without room too.
@@ -147,6 +152,11 @@ fn other_memory() {
     }
 }
 
+/// Room about that which a list asks for, with the number that it is answered with.
+fn around(room: usize) -> [(usize, u64); 4] {
+    [(0, 43), (room - 1, 43), (room, 0), (room + 10, 0)]
+}
+
 /// Lists with less room than asked for, and with just enough and more.
 fn room(mem: &mut [u8]) {
     for size in [0, LIST - 1] {
@@ -155,13 +165,13 @@ fn room(mem: &mut [u8]) {
     want(21, ffi::step(mem, NAN, 0, [0, 0, 0], &[], &mut [0; LIST]).code, "step");
     want(41, ffi::step(mem, 0.0, 0, [99, 0, 0], &[], &mut [0; LIST + 8]).code, "step");
     let out = &mut [0; 2048];
-    for (size, number) in [(0, 43), (639, 43), (640, 0), (650, 0)] {
+    for (size, number) in around(GROUPS * 40) {
         want(number, ffi::group_stats(mem, &mut out[..size]).code, "group_stats");
     }
-    for (size, number) in [(0, 43), (1919, 43), (1920, 0), (1930, 0)] {
+    for (size, number) in around(TAGS * 16) {
         want(number, ffi::table(mem, &mut out[..size]).code, "table");
     }
-    for (size, number) in [(0, 43), (240, 43), (241, 0), (242, 0)] {
+    for (size, number) in around(1 + 2 * TAGS) {
         want(number, ffi::panel(mem, &mut out[..size]).code, "panel");
     }
 }
