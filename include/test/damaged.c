@@ -364,7 +364,7 @@ static void harm(int s)
 /* The cell of a rate; its other four bytes are not looked at. */
 static uint64_t a_rate(uint64_t most)
 {
-    return (once(60) ? 0 : 1 + below(most)) | (once(3) ? draw() << 32 : 0);
+    return (once(300) ? 0 : 1 + below(most)) | (once(3) ? draw() << 32 : 0);
 }
 
 static void lend_settings(int s, size_t count)
