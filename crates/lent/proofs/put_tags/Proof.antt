@@ -4,7 +4,7 @@ use mathlib.Core.List.{List}
 use Prim.Native.Nat.{ℕ, _≤_, _+_, _*_, _-_, _/_, _%_}
 use native.Mathlib.Omega.{arith}
 use denote.Ref.{now}
-use lib.ListN.{length, getD, set, take, length-set}
+use lib.ListN.{length, set, take, length-set}
 use lib.Seq.{take-all}
 use Rattle.tags.specs.Lists.{listIn}
 use Rattle.lent.specs.Lent.{overBytes, tagBytes}
