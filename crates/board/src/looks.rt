@@ -2,7 +2,7 @@
 ghost use mathlib.Core.Path.{_≡_};
 ghost use lib.ListN.{length};
 ghost use Rattle.tiers.specs.Tiers.{tagAt};
-ghost use Rattle.lent.specs.Lent.{wroteAll, records, recordPut};
+ghost use Rattle.lent.specs.Lent.{cellBytes, wroteAll, records, recordPut};
 ghost use Rattle.panel.specs.Panel.{panelOf, written, writtenLength};
 ghost use Rattle.statistics.specs.Counts.{tierCount};
 ghost use Rattle.board.specs.Regions.{boardSize};
@@ -53,7 +53,7 @@ pub fn write_panel(board: &[u8], out: &mut [u8]) -> usize
 pub fn group_stats(board: &[u8], out: &mut [u8]) -> usize
     requires { ⌜ length (now board) ≡ boardSize ⌝ }
     ensures { λ r. ⌜ r ≡ groupsTold (now (out .entry)) (factsOf (boardIn (now (board .entry)))) ⌝ }
-    ensures { λ _. ⌜ now (out .exit) ≡ wroteAll (now (out .entry)) (groupStats (factsOf (boardIn (now (board .entry))))) ⌝ }
+    ensures { λ _. ⌜ now (out .exit) ≡ wroteAll (now (out .entry)) (cellBytes (groupStats (factsOf (boardIn (now (board .entry)))))) ⌝ }
 {
     statistics::group_stats(
         &board[7424..38144],
@@ -78,7 +78,7 @@ fn put_row(board: &[u8], out: &mut [u8], i: usize, k: usize)
 pub fn put_table(board: &[u8], out: &mut [u8]) -> usize
     requires { ⌜ length (now board) ≡ boardSize ⌝ }
     ensures { λ r. ⌜ r ≡ length (boardIn (now (board .entry)) .table .order) ⌝ }
-    ensures { λ _. ⌜ now (out .exit) ≡ wroteAll (now (out .entry)) (records (rowCells (boardIn (now (board .entry)))) (boardIn (now (board .entry)) .table .order)) ⌝ }
+    ensures { λ _. ⌜ now (out .exit) ≡ wroteAll (now (out .entry)) (cellBytes (records (rowCells (boardIn (now (board .entry)))) (boardIn (now (board .entry)) .table .order))) ⌝ }
 {
     let n = tags::count(&board[256..512]);
     if out.len() / 16 < n {

@@ -2,7 +2,7 @@
 ghost use mathlib.Core.List.{[]};
 ghost use mathlib.Core.Path.{_≡_};
 ghost use lib.ListN.{length};
-ghost use Rattle.lent.specs.Lent.{wroteAll};
+ghost use Rattle.lent.specs.Lent.{tagBytes, wroteAll};
 ghost use Rattle.writes.specs.Queue.{queuedWith, popped, rest};
 ghost use Rattle.board.specs.Regions.{boardSize};
 ghost use Rattle.board.specs.Board.{boardIn, withQueue, queuedTags};
@@ -35,7 +35,7 @@ pub fn pop_write(board: &mut [u8]) -> Popped
 // No write waits any more; the tags of those that did go into `out`.
 pub fn fail_writes(board: &mut [u8], out: &mut [u8]) -> usize
     requires { ⌜ length (now board) ≡ boardSize ⌝ }
-    ensures { λ r. ⌜ (r ≡ length (queuedTags (boardIn (now (board .entry))))) × ((boardIn (now (board .exit)) ≡ withQueue (boardIn (now (board .entry))) []) × (now (out .exit) ≡ wroteAll (now (out .entry)) (queuedTags (boardIn (now (board .entry)))))) ⌝ }
+    ensures { λ r. ⌜ (r ≡ length (queuedTags (boardIn (now (board .entry))))) × ((boardIn (now (board .exit)) ≡ withQueue (boardIn (now (board .entry))) []) × (now (out .exit) ≡ wroteAll (now (out .entry)) (tagBytes (queuedTags (boardIn (now (board .entry))))))) ⌝ }
 {
     let mut tags = [0u8; 256];
     writes::queue::list_queued(&board[2304..3328], &mut tags);

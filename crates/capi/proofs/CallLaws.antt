@@ -58,7 +58,7 @@ step-put bs y out out' s T U h l e d =
       head-is = d .done .head-is ∙ ap (λ (t : Told). t .left .head) e;
       board-is = ap (λ (W : Worker). W .board) p ∙ d .done .board-is ∙ ap (λ (t : Told). t .left .board) e;
       reply-is = d .done .reply-is ∙ ap (λ (t : Told). t .reply) e;
-      out-is = d .done .out-is ∙ ap (λ (t : Told). wroteAll out (t .cells)) e;
+      out-is = d .done .out-is ∙ ap (λ (t : Told). wroteAll out (t .bytes)) e;
       kept = λ z. let k = d .kept z in (ap (λ (x : List ℕ). putMid 256 38144 bs x) (k .0) ∙ put-same 256 38144 bs, k .1);
     }
 
@@ -101,7 +101,7 @@ module _ (bs new out out' : List ℕ) (s : Said) (e : Engine) (at : At) (a : Ans
           alien = λ g. absurd (g h);
           reply-is = λ g. reply-same;
           left-is = λ g. ap workerIn (k .0) ∙ sym (left-same (workerIn bs) at a (length out) (ap (λ (r : Reply). eqb (r .code) 0) (sym reply-same) ∙ z'));
-          out-is = λ g. d .out-is ∙ ap (λ (t : Told). wroteAll out (t .cells)) same;
+          out-is = λ g. d .out-is ∙ ap (λ (t : Told). wroteAll out (t .bytes)) same;
           kept = λ g. k;
           long = l;
         }
@@ -111,7 +111,7 @@ module _ (bs new out out' : List ℕ) (s : Said) (e : Engine) (at : At) (a : Ans
       alien = λ g. absurd (g h);
       reply-is = λ g. reply-same;
       left-is = λ g. w ∙ ap₂ {C = Worker} worker (d .head-is) (d .board-is) ∙ ap (λ (t : Told). t .left) same;
-      out-is = λ g. d .out-is ∙ ap (λ (t : Told). wroteAll out (t .cells)) same;
+      out-is = λ g. d .out-is ∙ ap (λ (t : Told). wroteAll out (t .bytes)) same;
       kept = λ g. absurd (g z);
       long = l;
     }

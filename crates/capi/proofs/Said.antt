@@ -9,6 +9,7 @@ use lib.Ieee.{Float}
 use lib.IntN.{ℤ}
 use lib.ListN.{length}
 use Rattle.words.specs.Value.{valueFrom}
+use Rattle.rounds.specs.declared.tick.Options.{Options}
 use Rattle.lent.specs.Lent.{wroteAll, records}
 use Rattle.board.specs.Board.{rowCells}
 use Rattle.replies.specs.Worker.{Worker, at, Told}
@@ -53,19 +54,19 @@ called-said old new r n W h = (h .alien, h .code, h .done, h .kept, h .long)
 -- The same of a step that came to T, with its lent list: the first bytes are T's, all behind them are as they were.
 pub stepped-said : (old new : List ℕ) (r : Reply) (out out' : List ℕ) (T : Told) → Stepped old new r out out' T
     → ((length old ≡ 38400 → ⊥) → r ≡ reply.refused 100) × (length old ≡ 38400 → r ≡ T .reply) × (length old ≡ 38400 → workerIn new ≡ T .left)
-    × (length old ≡ 38400 → out' ≡ wroteAll out (T .cells)) × ((r .code ≡ 0 → ⊥) → (new ≡ old) × (out' ≡ out)) × (length new ≡ length old)
+    × (length old ≡ 38400 → out' ≡ wroteAll out (T .bytes)) × ((r .code ≡ 0 → ⊥) → (new ≡ old) × (out' ≡ out)) × (length new ≡ length old)
 stepped-said old new r out out' T h = (h .alien, h .reply-is, h .left-is, h .out-is, h .kept, h .long)
 
 -- ---- calls
 
-abbrev setup : List ℕ → List ℕ → Float → Float → Float → List ℕ → List ℕ → Setup
-setup names ends cycle period grace settings groups = record { names = names; ends = ends; options = record { cycle = cycle; period = period; grace = grace }; settings = settings; groups = groups }
+abbrev setup : List ℕ → List ℕ → Options → List ℕ → List ℕ → Setup
+setup names ends options settings groups = record { names = names; ends = ends; options = options; settings = settings; groups = groups }
 
-pub create-said : (κs : Lfts 4) (mem mem' names ends settings groups : RefT (List ℕ)) (cycle period grace : Float) (r : ℕ)
-    → create-contract.Learnt κs (mem, (names, (ends, (cycle, (period, (grace, (settings, (groups, tt)))))))) r (mem', (names, (ends, (cycle, (period, (grace, (settings, (groups, tt))))))))
-    → Called (mem .now) (mem' .now) r (creationCheck (setup (names .now) (ends .now) cycle period grace (settings .now) (groups .now)))
-    (freshWorker (setup (names .now) (ends .now) cycle period grace (settings .now) (groups .now)))
-create-said κs mem mem' names ends settings groups cycle period grace r h = h
+pub create-said : (κs : Lfts 4) (mem mem' names ends settings groups : RefT (List ℕ)) (options : Options) (r : ℕ)
+    → create-contract.Learnt κs (mem, (names, (ends, (options, (settings, (groups, tt)))))) r (mem', (names, (ends, (options, (settings, (groups, tt))))))
+    → Called (mem .now) (mem' .now) r (creationCheck (setup (names .now) (ends .now) options (settings .now) (groups .now)))
+    (freshWorker (setup (names .now) (ends .now) options (settings .now) (groups .now)))
+create-said κs mem mem' names ends settings groups options r h = h
 
 pub tier-said : (κs : Lfts 1) (mem mem' : RefT (List ℕ)) (clock : Float) (tag to r : ℕ) → tier-contract.Learnt κs (mem, (clock, (tag, (to, tt)))) r (mem', (clock, (tag, (to, tt))))
     → Called (mem .now) (mem' .now) r (tierCheck (workerIn (mem .now)) clock tag to) (tiered (workerIn (mem .now)) clock tag to)

@@ -50,7 +50,7 @@ pub record SteppedBoard (T : Told) (s : Said) (old new out out' : List ℕ) : Ty
   pub head-is : s .head ≡ T .left .head
   pub board-is : workerIn new .board ≡ T .left .board
   pub reply-is : s .reply ≡ T .reply
-  pub out-is : out' ≡ wroteAll out (T .cells)
+  pub out-is : out' ≡ wroteAll out (T .bytes)
   pub kept : eqb (s .reply .code) 0 ≡ false → (new ≡ old) × (out' ≡ out)
 
 -- A step that came to T. A refusal writes nothing. Memory keeps its length.
@@ -58,6 +58,6 @@ pub record Stepped (old new : List ℕ) (r : Reply) (out out' : List ℕ) (T : T
   pub alien : (length old ≡ memorySize → ⊥) → r ≡ reply.refused notAnEngine
   pub reply-is : length old ≡ memorySize → r ≡ T .reply
   pub left-is : length old ≡ memorySize → workerIn new ≡ T .left
-  pub out-is : length old ≡ memorySize → out' ≡ wroteAll out (T .cells)
+  pub out-is : length old ≡ memorySize → out' ≡ wroteAll out (T .bytes)
   pub kept : (r .code ≡ 0 → ⊥) → (new ≡ old) × (out' ≡ out)
   pub long : length new ≡ length old

@@ -16,30 +16,23 @@ pub extern "C" fn wz_create<'a>(
     mem: &mut [u8],
     names: &'a [u8],
     ends: &'a [u32],
-    cycle: f64,
-    period: f64,
-    grace: f64,
+    options: Options,
     settings: &[u8],
     groups: &[u8],
 ) -> u32
     ensures { λ r. ⌜ Called (now (mem .entry)) (now (mem .exit)) r
-        (creationCheck (record { names = now (names .entry); ends = now (ends .entry); options = record { cycle = cycle; period = period; grace = grace }; settings = now (settings .entry); groups = now (groups .entry) }))
-        (freshWorker (record { names = now (names .entry); ends = now (ends .entry); options = record { cycle = cycle; period = period; grace = grace }; settings = now (settings .entry); groups = now (groups .entry) })) ⌝ }
+        (creationCheck (record { names = now (names .entry); ends = now (ends .entry); options = options; settings = now (settings .entry); groups = now (groups .entry) }))
+        (freshWorker (record { names = now (names .entry); ends = now (ends .entry); options = options; settings = now (settings .entry); groups = now (groups .entry) })) ⌝ }
 {
     if mem.len() != MEMORY {
         return NOT_AN_ENGINE;
     }
-    let o = Options {
-        cycle: cycle,
-        period: period,
-        grace: grace,
-    };
-    let n = creation_check(names, ends, o, settings, groups);
+    let n = creation_check(names, ends, options, settings, groups);
     if n != 0 {
         return n;
     }
     let count = (ends.len() % 65536) as u16;
-    let fresh = Engine::fresh(o, count);
+    let fresh = Engine::fresh(options, count);
     create(mem, names, ends, settings, groups);
     put_head(mem, fresh);
     0

@@ -116,11 +116,11 @@ error-small (Is x) f = (kind-small (x .kind) (f .0), omega (arith, f .1))
 
 pub cells-small : (h : Held) → Fit h → Below (2 ^ 64) (entryCells h)
 unfolding entryWordsOf
-cells-small Nothing f = (omega arith, (omega arith, (omega arith, (omega arith, (omega arith, (omega arith, tt))))))
+cells-small Nothing f = (omega arith, (omega arith, (omega arith, (omega arith, (omega arith, (omega arith, (omega arith, (omega arith, tt))))))))
 cells-small (Has e) f =
     let v = value-small (e .value) (f .0) in
     let x = error-small (e .error) (f .2) in
-    (quality-small (e .quality), (v .0, (v .1, (fits-ofZ (f .1) .fits, (x .0, (x .1, tt))))))
+    (quality-small (e .quality), (v .0, (v .1, (fits-ofZ (f .1) .fits, (x .0, (x .1, (omega arith, (omega arith, tt))))))))
 
 -- ---- words of 64 bits hold such entries
 

@@ -71,7 +71,7 @@ goes-on T t s r board board' before out out' k d p =
 
 -- the tick is waited for, whatever was worked out
 abbrev pub waits : Told → At → Told
-waits T t = record { left = waiting (T .left) t .left; reply = waiting (T .left) t .reply; cells = []; round = T .round }
+waits T t = record { left = waiting (T .left) t .left; reply = waiting (T .left) t .reply; bytes = []; round = T .round }
 
 pub lastly-stands : (T : Told) (t : At) (s : Said) (board before out : List ℕ) → (s .reply .kind ≡ 0 → ⊥) → Done T s board before out → Done (lastly T t) s board before out
 lastly-stands T t s board before out n d =

@@ -11,7 +11,7 @@ use lib.ListN.{length}
 use Rattle.tags.specs.Lists.{listIn, room}
 use Rattle.tags.proofs.ListLaws.{room-same}
 use Rattle.table.specs.Table.{tableIn}
-use Rattle.lent.specs.Lent.{wroteAll}
+use Rattle.lent.specs.Lent.{cellBytes, wroteAll}
 use Rattle.readings.specs.Listed.{Applying, AppliedAll, applyAll, inTagOrder}
 use Rattle.readings.specs.Stale.{tagStale, staledTags}
 use Rattle.slices.specs.Room.{fitted}
@@ -24,15 +24,15 @@ use Rattle.polls.specs.Lending.{Listed}
 
 -- The changes that were listed are told.
 pub told : (C : Changed) (B' : Board) (list out out' : List ℕ) (r : ℕ)
-    → Listed C B' list → r ≡ length list → out' ≡ wroteAll out (changesIn B' list) → Changing C r B' out out'
+    → Listed C B' list → r ≡ length list → out' ≡ wroteAll out (cellBytes (changesIn B' list)) → Changing C r B' out out'
 told C B' list out out' r l n w =
     record {
       count-is = n ∙ ap (λ (z : List ℕ). length z) (l .list-is);
       board-is = l .board-is;
       out-is =
           w
-          ∙ ap (λ (X : Board). wroteAll out (changesIn X list)) (l .board-is)
-          ∙ ap (λ (z : List ℕ). wroteAll out (changesIn (C .board) z)) (l .list-is);
+          ∙ ap (λ (X : Board). wroteAll out (cellBytes (changesIn X list))) (l .board-is)
+          ∙ ap (λ (z : List ℕ). wroteAll out (cellBytes (changesIn (C .board) z))) (l .list-is);
     }
 
 -- The readings applied. Both lists for them are as long as the part of the tags asked for.

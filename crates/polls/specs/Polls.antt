@@ -7,7 +7,7 @@ use lib.Ieee.{Float}
 use lib.IntN.{ℤ}
 use lib.ListN.{length}
 use Rattle.lists.specs.Sort.{byKeys}
-use Rattle.lent.specs.Lent.{records, wroteAll}
+use Rattle.lent.specs.Lent.{cellBytes, records, wroteAll}
 use Rattle.lent.specs.Changes.{changeCells}
 use Rattle.slices.specs.Room.{fitted}
 use Rattle.rounds.specs.Round.{Polling, Round, round}
@@ -30,7 +30,7 @@ pollingOf B c = record { table = B .table; groups = B .groups; cycle = c }
 abbrev pub roundOf : Board → Options → Cycle → Float → Round
 roundOf B o c clock = round (byKeys (B .keys)) (record { sorted = B .askedRoom; wanted = B .askedRoom; list = B .askedRoom }) o (pollingOf B c) clock
 
--- Rule 7: a change is the tag and the six words of its published entry
+-- Rule 7: a change is the tag and the eight cells of its published entry
 abbrev pub changesIn : Board → List ℕ → List ℕ
 changesIn B changes = records (changeCells (B .table .tags)) changes
 
@@ -60,4 +60,4 @@ pub record Worked (B : Board) (R : Round) (r : CycleTags) (B' : Board) : Type 0 
 pub record Changing (C : Changed) (r : ℕ) (B' : Board) (out out' : List ℕ) : Type 0 where
   pub count-is : r ≡ length (C .changes)
   pub board-is : B' ≡ C .board
-  pub out-is : out' ≡ wroteAll out (changesIn (C .board) (C .changes))
+  pub out-is : out' ≡ wroteAll out (cellBytes (changesIn (C .board) (C .changes)))

@@ -3,7 +3,7 @@ ghost use mathlib.Core.Bool.{true, false};
 ghost use mathlib.Core.Path.{_≡_};
 ghost use lib.ListN.{length};
 ghost use Rattle.tags.specs.Lists.{listIn};
-ghost use Rattle.lent.specs.Lent.{wroteAll};
+ghost use Rattle.lent.specs.Lent.{cellBytes, wroteAll};
 ghost use Rattle.board.specs.Regions.{boardSize};
 ghost use Rattle.board.specs.Board.{boardIn};
 ghost use Rattle.polls.specs.Polls.{appliedTo, staledIn, changesIn, Changing};
@@ -17,7 +17,7 @@ use tags::count;
 fn tell_changes(board: &[u8], out: &mut [u8], changes: &[u8]) -> usize
     requires { ⌜ length (now board) ≡ boardSize ⌝ }
     ensures { λ r. ⌜ r ≡ length (listIn (now (changes .entry))) ⌝ }
-    ensures { λ _. ⌜ now (out .exit) ≡ wroteAll (now (out .entry)) (changesIn (boardIn (now (board .entry))) (listIn (now (changes .entry)))) ⌝ }
+    ensures { λ _. ⌜ now (out .exit) ≡ wroteAll (now (out .entry)) (cellBytes (changesIn (boardIn (now (board .entry))) (listIn (now (changes .entry))))) ⌝ }
 {
     put_changes(out, &board[7424..38144], changes);
     count(changes)

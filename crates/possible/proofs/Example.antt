@@ -65,13 +65,14 @@ use Rattle.board.specs.Creation as board-Creation
 use Rattle.replies.specs.Losing as replies-Losing
 use Rattle.cycles.specs.Polling as cycles-Polling
 use Rattle.worker.specs.Answers as worker-Answers
+use Rattle.capi.specs.Memory.{listSize}
 use Rattle.capi.specs.Memory as capi-Memory
 use Rattle.checks.specs.Calls as checks-Calls
 use Rattle.checks.specs.Creation as checks-Creation
 
 -- a step at the clock reading n with an answer of this kind
 abbrev pub stepAt : ℕ → ℕ → Call
-stepAt n kind = steps (float n) (pos 0) kind 7 0 (replicate 96 0) (replicate 6720 0)
+stepAt n kind = steps (float n) (pos 0) kind 7 0 (replicate 96 0) (replicate listSize 0)
 
 -- three tags in tier 2, a connect, and a round; then looks, a write, a refused tier call, a lost connection, a new connect, and a round
 abbrev pub someCalls : List Call

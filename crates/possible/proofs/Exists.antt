@@ -12,6 +12,7 @@ use prog.Model.{AllFit}
 use Rattle.ieee.specs.Round.{float}
 use Rattle.histories.specs.Events.{Each}
 use Rattle.histories.specs.Histories.{calls, Happened}
+use Rattle.capi.specs.Memory.{listSize}
 use Rattle.turns.specs.Contracts.{Asked, Learnt}
 use Rattle.turns.specs.Demand.{History, Demand3, Claim}
 use Rattle.possible.specs.Typed.{Lendable, Typed, EveryList}
@@ -33,7 +34,7 @@ zeros n h = (zeros-fit n, subst (λ (k : ℕ). k < 2 ^ 63) (sym (length-replicat
 -- the steps of the example
 step-typed : (n kind : ℕ) → ieee.fits ieee.binary64 (float n) ≡ true → kind < 2 ^ 64 → Typed (stepAt n kind)
 unfolding Typed
-step-typed n kind f k = (f, omega arith, k, omega arith, omega arith, zeros 96 (omega arith), zeros 6720 (omega arith))
+step-typed n kind f k = (f, omega arith, k, omega arith, omega arith, zeros 96 (omega arith), zeros listSize (omega arith))
 
 -- clock readings
 float-0 : ieee.fits ieee.binary64 (float 0) ≡ true

@@ -9,7 +9,7 @@ use table::tag::Description;
 use words::entry::held_words;
 
 // A tag's tier, 0 for none; its cached entry, held being 0 where there is none; and its description, 0 where it is not
-// known, 1 where it has none, and otherwise the number and 2.
+// known, 1 where it has none, and otherwise the number and 2. has_g and g are cells of the entry that nothing uses yet.
 #[repr(C)]
 pub struct TagLook {
     pub code: u64,
@@ -20,6 +20,8 @@ pub struct TagLook {
     pub t: u64,
     pub error: u64,
     pub message: u64,
+    pub has_g: u64,
+    pub g: u64,
     pub description: u64,
 }
 
@@ -51,6 +53,8 @@ fn tag_of(board: &[u8], k: usize) -> TagLook
         t: w.t,
         error: w.error,
         message: w.message,
+        has_g: 0,
+        g: 0,
         description: description,
     }
 }
@@ -67,6 +71,8 @@ pub fn no_look(code: u64) -> TagLook
         t: 0,
         error: 0,
         message: 0,
+        has_g: 0,
+        g: 0,
         description: 0,
     }
 }

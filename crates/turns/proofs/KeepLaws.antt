@@ -155,8 +155,8 @@ pub record Still (W : Worker) (T : Told) : Type 0 where
   pub no-round : T .round ≡ none
 
 -- something told by an engine that keeps all
-pub still-tell : (W M : Worker) (r : Reply) (cells : List ℕ) → Keeps W M → Still W (tell M r cells)
-still-tell W M r cells k = record { keeps = k; no-round = refl }
+pub still-tell : (W M : Worker) (r : Reply) (bytes : List ℕ) → Keeps W M → Still W (tell M r bytes)
+still-tell W M r bytes k = record { keeps = k; no-round = refl }
 
 -- either of two
 pub still-if : (W : Worker) (b : Bool) (x y : Told) → Still W x → Still W y → Still W (cond b x y)

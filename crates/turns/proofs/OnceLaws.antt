@@ -13,6 +13,7 @@ use mir.Facts.{or-yes}
 use Rattle.ieee.specs.Round.{float}
 use Rattle.ieee.proofs.Order.{yes}
 use Rattle.table.specs.declared.tag.Tag.{Tag}
+use Rattle.lent.specs.Lent.{tagBytes}
 use Rattle.rounds.specs.Options.{cycleOk}
 use Rattle.rounds.specs.Round.{round as worked-round}
 use Rattle.writes.specs.Queue.{popped}
@@ -121,7 +122,7 @@ module _ (at : At) (f : T (finite (at .clock))) where
     poll-told =
         told-if (W .head .link .stopping) _ _ (writing-told W End refl) (told-round (isEmpty (roundAt W at .list)))
       where
-        told-round : (b : Bool) → goesOn (cond b (reading (withWorked W at (roundAt W at)) at) (tell (phased (withWorked W at (roundAt W at)) Read) (reply.read (length (roundAt W at .list))) (roundAt W at .list))) ≡ false
+        told-round : (b : Bool) → goesOn (cond b (reading (withWorked W at (roundAt W at)) at) (tell (phased (withWorked W at (roundAt W at)) Read) (reply.read (length (roundAt W at .list))) (tagBytes (roundAt W at .list)))) ≡ false
         told-round true = reading-told (withWorked W at (roundAt W at)) begun-worked
         told-round false = refl
 

@@ -161,8 +161,8 @@ keeps-versioned W connecting a ok =
     (keeps-all mid (versioned W connecting a) refl refl refl refl refl refl refl)
 
 -- something told from the engine M
-still-told : (W M X : Worker) (r : Reply) (cells : List ℕ) → Keeps W M → Keeps M X → Still W (tell X r cells)
-still-told W M X r cells k j = still-tell W X r cells (keeps-after W M X k j)
+still-told : (W M X : Worker) (r : Reply) (bytes : List ℕ) → Keeps W M → Keeps M X → Still W (tell X r bytes)
+still-told W M X r bytes k j = still-tell W X r bytes (keeps-after W M X k j)
 
 pub still-open-version : (W : Worker) (a : Answer) → settingsOk (W .head .count) (a .list) ≡ true → Still W (openVersion W a)
 unfolding openVersion

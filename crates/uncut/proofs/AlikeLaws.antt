@@ -10,9 +10,9 @@ use lib.IntN.{ℤ}
 use lib.ListN.{length, getD, set, take, length-map, length-take, length-drop, length-append}
 use Rattle.lists.specs.Keep.{keep}
 use Rattle.lists.specs.Sort.{byKeys}
-use Rattle.lent.specs.Changes.{changeCells}
-use Rattle.lent.specs.Lent.{records}
-use Rattle.lent.proofs.LentLaws.{length-records}
+use Rattle.lent.specs.Changes.{changeCells, changeSize}
+use Rattle.lent.specs.Lent.{cellBytes, tagBytes, records}
+use Rattle.lent.proofs.LentLaws.{length-bytes, length-tags, length-records}
 use Rattle.tags.specs.Lists.{pushed, member}
 use Rattle.table.specs.Tag.{freshTag}
 use Rattle.table.specs.Table.{withDescription}
@@ -141,9 +141,13 @@ module _ (rows n : ℕ) (B : Board) (f : Fits rows n B) where
   abbrev tags : List Tag
   tags = B .table .tags
 
-  -- what is told of changes: seven cells each, and no more changes than tags
-  changes-few : (l : List Tag) (ks : List ℕ) → length ks ≤ rows → length (records (changeCells l) ks) ≤ 7 * rows
-  changes-few l ks h = omega (arith, length-records (changeCells l) 7 (λ k. refl) ks)
+  -- what is told of changes: nine cells each, and no more changes than tags
+  changes-few : (l : List Tag) (ks : List ℕ) → length ks ≤ rows → length (cellBytes (records (changeCells l) ks)) ≤ changeSize * rows
+  changes-few l ks h = omega (arith, length-bytes (records (changeCells l) ks), length-records (changeCells l) 9 (λ k. refl) ks)
+
+  -- a list of tags: two bytes each
+  tags-few : (ks : List ℕ) → length ks ≤ B .askedRoom → length (tagBytes ks) ≤ changeSize * rows
+  tags-few ks h = omega (arith, length-tags ks, f .rooms .bytes-fit)
 
   -- tags by rank: all fit, and it does not matter how much room there is
   module _ (p : ℕ → Bool) where
@@ -205,9 +209,6 @@ module _ (rows n : ℕ) (B : Board) (f : Fits rows n B) where
   asked-same : take n (askedTags tags) ≡ take (B .askedRoom) (askedTags tags)
   asked-same = ranked-same (λ (k : ℕ). isAsked (getD tags k freshTag))
 
-  asked-few : length (describing B .asked) ≤ rows
-  asked-few = ranked-few (λ (k : ℕ). isAsked (getD tags k freshTag))
-
   -- Rule 8: the tags of the writes that wait
   queued-same : queuedTags (boardRoomed n B) ≡ queuedTags B
   queued-same =
@@ -216,8 +217,8 @@ module _ (rows n : ℕ) (B : Board) (f : Fits rows n B) where
       let r = f .rooms in
       cut-same n (B .askedRoom) (writeTags (B .queue)) (omega (arith, long, r .writes-fit, r .more)) (omega (arith, long, r .writes-fit))
 
-  queued-few : length (queuedTags B) ≤ 7 * rows
-  queued-few = omega (arith, length-take (B .askedRoom) (writeTags (B .queue)), f .rooms .cells-fit)
+  queued-few : length (tagBytes (queuedTags B)) ≤ changeSize * rows
+  queued-few = tags-few (queuedTags B) (omega (arith, length-take (B .askedRoom) (writeTags (B .queue))))
 
 describing-fits : (rows n : ℕ) (B : Board) → Fits rows n B → Fits rows n (describing B)
 describing-fits rows n B f =
@@ -230,25 +231,25 @@ describing-fits rows n B f =
 -- ---- what is told
 
 module _ (rows n : ℕ) where
-  -- What T' tells is what T tells, and it leaves the same engine but for the rooms; what fits is kept, and the cells are no more than a change for each tag has.
+  -- What T' tells is what T tells, and it leaves the same engine but for the rooms; what fits is kept, and the bytes are no more than those of a change for each tag.
   pub record Alike (T T' : Told) : Type 0 where
     pub fits : Fits rows n (T .left .board)
     pub left-same : T' .left ≡ roomed n (T .left)
     pub reply-same : T' .reply ≡ T .reply
-    pub cells-same : T' .cells ≡ T .cells
-    pub cells-few : length (T .cells) ≤ 7 * rows
+    pub bytes-same : T' .bytes ≡ T .bytes
+    pub bytes-few : length (T .bytes) ≤ changeSize * rows
 
   -- either of two
   alike-if : (b : Bool) (x x' y y' : Told) → Alike x x' → Alike y y' → Alike (cond b x y) (cond b x' y')
   alike-if true x x' y y' p q = p
   alike-if false x x' y y' p q = q
 
-  pub alike-tell : (W : Worker) (r : Reply) (cells : List ℕ) → Fits rows n (W .board) → length cells ≤ 7 * rows → Alike (tell W r cells) (tell (roomed n W) r cells)
-  alike-tell W r cells f few = record { fits = f; left-same = refl; reply-same = refl; cells-same = refl; cells-few = few }
+  pub alike-tell : (W : Worker) (r : Reply) (bytes : List ℕ) → Fits rows n (W .board) → length bytes ≤ changeSize * rows → Alike (tell W r bytes) (tell (roomed n W) r bytes)
+  alike-tell W r bytes f few = record { fits = f; left-same = refl; reply-same = refl; bytes-same = refl; bytes-few = few }
 
   -- the round that was worked out is not told
   alike-worked : (T T' : Told) (R R' : Round) → Alike T T' → Alike (worked T R) (worked T' R')
-  alike-worked T T' R R' a = record { fits = a .fits; left-same = a .left-same; reply-same = a .reply-same; cells-same = a .cells-same; cells-few = a .cells-few }
+  alike-worked T T' R R' a = record { fits = a .fits; left-same = a .left-same; reply-same = a .reply-same; bytes-same = a .bytes-same; bytes-few = a .bytes-few }
 
   alike-ask : (W : Worker) → Fits rows n (W .board) → (p : Phase) (r : Reply) → Alike (asks W p r) (asks (roomed n W) p r)
   alike-ask W f p r = alike-tell (phased W p) r [] f (omega arith)
@@ -259,12 +260,12 @@ module _ (rows n : ℕ) where
     alike-failing : (p : Phase) → Alike (failing W p) (failing (roomed n W) p)
     alike-failing p =
         rw (queued-same rows n (W .board) f)
-        (alike-tell (phased (withoutWrites W) p) _ (queuedTags (W .board)) (fits-queue rows n (W .board) f [] (omega arith)) (queued-few rows n (W .board) f))
+        (alike-tell (phased (withoutWrites W) p) _ (tagBytes (queuedTags (W .board))) (fits-queue rows n (W .board) f [] (omega arith)) (queued-few rows n (W .board) f))
 
     alike-ended : Alike (ended W) (ended (roomed n W))
     alike-ended =
         rw (queued-same rows n (W .board) f)
-        (alike-tell (phased (stated (withoutWrites W) AtStop) Stopped) _ (queuedTags (W .board)) (fits-queue rows n (W .board) f [] (omega arith)) (queued-few rows n (W .board) f))
+        (alike-tell (phased (stated (withoutWrites W) AtStop) Stopped) _ (tagBytes (queuedTags (W .board))) (fits-queue rows n (W .board) f [] (omega arith)) (queued-few rows n (W .board) f))
 
     alike-backing-off : Alike (backingOff W) (backingOff (roomed n W))
     alike-backing-off = alike-tell _ _ [] f (omega arith)
@@ -336,7 +337,7 @@ module _ (rows n : ℕ) where
         let next = tallied (withBoard W B) (readStats (W .head .stats) (length (W .board .asked))) in
         let g = describing-fits rows n (W .board) f in
         rw (asked-same rows n (W .board) f)
-        (alike-if (isEmpty (B .asked)) _ _ _ _ (alike-checking next g) (alike-tell (phased next Describe) _ _ g (omega (arith, asked-few rows n (W .board) f))))
+        (alike-if (isEmpty (B .asked)) _ _ _ _ (alike-checking next g) (alike-tell (phased next Describe) _ _ g (tags-few rows n B g (B .asked) (g .asked-few))))
 
     -- Rule 6: a round
     module _ (W : Worker) (f : Fits rows n (W .board)) (l : Listed (W .board .table)) where
@@ -373,7 +374,7 @@ module _ (rows n : ℕ) where
           let next = withWorked W at R in
           rw (a, b, c, d)
           (alike-worked _ _ R _
-          (alike-if (isEmpty (R .list)) _ _ _ _ (alike-reading next worked-fits) (alike-tell (phased next Read) _ (R .list) worked-fits (omega (arith, round-few, f .rooms .cells-fit)))))
+          (alike-if (isEmpty (R .list)) _ _ _ _ (alike-reading next worked-fits) (alike-tell (phased next Read) _ (tagBytes (R .list)) worked-fits (tags-few rows n B f (R .list) round-few))))
 
       alike-poll : Alike (poll W at) (poll (roomed n W) at)
       unfolding poll
@@ -390,24 +391,24 @@ module _ (rows n : ℕ) where
           (list-same less rows (B .askedRoom) n o P (at .clock) l (f .table-fits) (f .groups-fit) (r .tags-fit) (r .more) all-groups))
 
     -- what T' tells, in terms of T
-    told-same : (T T' : Told) → Alike T T' → T' ≡ record { left = roomed n (T .left); reply = T .reply; cells = T .cells; round = T' .round }
+    told-same : (T T' : Told) → Alike T T' → T' ≡ record { left = roomed n (T .left); reply = T .reply; bytes = T .bytes; round = T' .round }
     told-same T T' a =
-        let t : Worker → Reply → List ℕ → Told = λ W r cells. record { left = W; reply = r; cells = cells; round = T' .round } in
-        ap (λ (W : Worker). t W (T' .reply) (T' .cells)) (a .left-same) ∙ ap (λ (r : Reply). t (roomed n (T .left)) r (T' .cells)) (a .reply-same) ∙ ap (λ (l : List ℕ). t (roomed n (T .left)) (T .reply) l) (a .cells-same)
+        let t : Worker → Reply → List ℕ → Told = λ W r bytes. record { left = W; reply = r; bytes = bytes; round = T' .round } in
+        ap (λ (W : Worker). t W (T' .reply) (T' .bytes)) (a .left-same) ∙ ap (λ (r : Reply). t (roomed n (T .left)) r (T' .bytes)) (a .reply-same) ∙ ap (λ (l : List ℕ). t (roomed n (T .left)) (T .reply) l) (a .bytes-same)
 
     alike-lastly : (T T' : Told) → Alike T T' → Alike (lastly T at) (lastly T' at)
     alike-lastly T T' a =
         let w = alike-waiting (T .left) (a .fits) in
-        let x : Alike (record { left = waiting (T .left) at .left; reply = waiting (T .left) at .reply; cells = []; round = T .round }) (record { left = waiting (roomed n (T .left)) at .left; reply = waiting (roomed n (T .left)) at .reply; cells = []; round = T' .round })
-        = record { fits = w .fits; left-same = w .left-same; reply-same = w .reply-same; cells-same = refl; cells-few = omega arith } in
-        rw (told-same T T' a) (alike-if (goesOn T) _ _ T _ x (record { fits = a .fits; left-same = refl; reply-same = refl; cells-same = refl; cells-few = a .cells-few }))
+        let x : Alike (record { left = waiting (T .left) at .left; reply = waiting (T .left) at .reply; bytes = []; round = T .round }) (record { left = waiting (roomed n (T .left)) at .left; reply = waiting (roomed n (T .left)) at .reply; bytes = []; round = T' .round })
+        = record { fits = w .fits; left-same = w .left-same; reply-same = w .reply-same; bytes-same = refl; bytes-few = omega arith } in
+        rw (told-same T T' a) (alike-if (goesOn T) _ _ T _ x (record { fits = a .fits; left-same = refl; reply-same = refl; bytes-same = refl; bytes-few = a .bytes-few }))
 
     pub alike-finished : (T T' : Told) → Alike T T' → Listed (T .left .board .table) → Alike (finished T at) (finished T' at)
     unfolding finished
     alike-finished T T' a l =
         rw (told-same T T' a)
         (alike-if (goesOn T) _ _ T _ (alike-lastly (poll (T .left) at) (poll (roomed n (T .left)) at) (alike-poll (T .left) (a .fits) l))
-        (record { fits = a .fits; left-same = refl; reply-same = refl; cells-same = refl; cells-few = a .cells-few }))
+        (record { fits = a .fits; left-same = refl; reply-same = refl; bytes-same = refl; bytes-few = a .bytes-few }))
 
   -- ---- answers
 
@@ -472,8 +473,8 @@ module _ (rows n : ℕ) where
       (known-kept isGraced (λ x d. refl) (foundIn (a .list)) 0 found tags) (known-kept isGraced (λ x d. refl) none 0 (B .asked) tags) in
       let s : map settingsOf known ≡ map settingsOf tags = cond-known (eqb (a .kind) 9) _ _ (λ (l : List Tag). map settingsOf l ≡ map settingsOf tags)
       (known-kept settingsOf (λ x d. refl) (foundIn (a .list)) 0 found tags) (known-kept settingsOf (λ x d. refl) none 0 (B .asked) tags) in
-      alike-tell (phased (withBoard W (withRecords B known)) InfoTold) _ (B .asked) (fits-records rows n B f known e (numbered-same known tags s (f .table-fits .numbered)))
-      (omega (arith, f .asked-few, f .rooms .cells-fit))
+      alike-tell (phased (withBoard W (withRecords B known)) InfoTold) _ (tagBytes (B .asked)) (fits-records rows n B f known e (numbered-same known tags s (f .table-fits .numbered)))
+      (tags-few rows n B f (B .asked) (f .asked-few))
 
   -- a tag and its word are two at most
   back-few : (words : List ℕ) (k : ℕ) → length (readBackTags words k) ≤ maxWrites
@@ -497,7 +498,7 @@ module _ (rows n : ℕ) where
       let asked = take (B .askedRoom) (readBackTags (B .table .words) k) in
       let few : length asked ≤ B .askedRoom = omega (arith, length-take (B .askedRoom) (readBackTags (B .table .words) k)) in
       rw (back-same W f k)
-      (alike-if (eqb (a .kind) 7) _ _ _ _ (alike-tell (phased (withBoard W (withAsked B asked)) ReadBack) _ asked (fits-asked rows n B f asked few) (omega (arith, few, f .rooms .cells-fit)))
+      (alike-if (eqb (a .kind) 7) _ _ _ _ (alike-tell (phased (withBoard W (withAsked B asked)) ReadBack) _ (tagBytes asked) (fits-asked rows n B f asked few) (tags-few rows n B f asked few))
       (alike-if (eqb (a .kind) 8) _ _ _ _ (alike-ask W f RefusedTold _) (alike-ask W f LostTold _)))
 
   alike-read-back : (W : Worker) → Fits rows n (W .board) → (a : Answer) → Alike (readBack W a) (readBack (roomed n W) a)

@@ -14,7 +14,7 @@ use Rattle.memory.specs.Cells.{cellsIn, wordAt}
 use Rattle.memory.proofs.CellLaws.{cells-at}
 use Rattle.values.specs.declared.value.Value.the-variants.{Null}
 use Rattle.words.specs.Value.{valueFrom}
-use Rattle.lent.specs.Lent.{overBytes}
+use Rattle.lent.specs.Lent.{overBytes, tagBytes}
 use Rattle.lent.proofs.LentLaws.{over-length}
 use Rattle.results.specs.Results.{resultCount, resultIn}
 use Rattle.versions.specs.Versions.{isReloaded}
@@ -140,7 +140,7 @@ module _ (at : At) where
   apart-poll W =
       let R = roundAt W at in
       let next = withWorked W at R in
-      let rest : Apart next (cond (isEmpty (R .list)) (reading next at) (tell (phased next Read) (reply.read (length (R .list))) (R .list))) =
+      let rest : Apart next (cond (isEmpty (R .list)) (reading next at) (tell (phased next Read) (reply.read (length (R .list))) (tagBytes (R .list)))) =
       either (Apart next) (isEmpty (R .list)) _ _ (apart-reading next) (record { away = λ w. refl; long = refl }) in
       either (Apart W) (W .head .link .stopping) _ _ (apart-writing W End) (record { away = λ w. rest .away w; long = rest .long })
 

@@ -22,6 +22,7 @@ use Rattle.table.specs.declared.tag.Tag.{Tag}
 use Rattle.tiers.specs.Tiers.{Table, tagAt}
 use Rattle.tiers.specs.Graced.{Graced}
 use Rattle.groups.specs.Groups.{Groups, noted}
+use Rattle.lent.specs.Changes.{changeSize}
 use Rattle.rounds.specs.Added.{byRank}
 use Rattle.rounds.specs.Due.{recordedDue}
 use Rattle.rounds.specs.Round.{withTags}
@@ -201,13 +202,13 @@ fit-tags rows T tags e r f = record {
 
 -- ---- boards
 
--- The rooms of a board hold all tags, all writes that may wait and all groups, n is no less, and the room of a list is no more than the cells of a change for each tag.
+-- The rooms of a board hold all tags, all writes that may wait and all groups, n is no less, and the tags that a list has room for take no more bytes than a change for each tag.
 pub record Enough (rows n asked queue : ℕ) : Type 0 where
   pub tags-fit : rows ≤ asked
   pub writes-fit : maxWrites ≤ asked
   pub queue-fits : maxWrites ≤ queue
   pub more : asked ≤ n
-  pub cells-fit : asked ≤ 7 * rows
+  pub bytes-fit : 2 * asked ≤ changeSize * rows
 
 -- the numbers of the groups configured
 abbrev pub numbersOf : List Configured → List ℕ

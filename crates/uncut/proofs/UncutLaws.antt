@@ -35,7 +35,8 @@ use Rattle.rounds.specs.declared.tick.Options.{Options}
 use Rattle.heads.specs.Link.{isState}
 use Rattle.heads.specs.declared.link.State.the-variants.{Connected}
 use Rattle.heads.specs.declared.progress.After.the-variants.{End}
-use Rattle.lent.specs.Lent.{wroteAll, wroteCells}
+use Rattle.lent.specs.Lent.{overBytes, wroteAll}
+use Rattle.lent.specs.Changes.{changeSize}
 use Rattle.lent.proofs.LentLaws.{all-fits}
 use Rattle.histories.specs.Events.{Each}
 use Rattle.histories.specs.Histories.{atEach, answers, states}
@@ -106,7 +107,7 @@ module _ (o : Options) (ns : List (List ℕ)) (rows n : ℕ) where
 lastly-round : (now : At) (T : Told) → lastly T now .round ≡ T .round
 lastly-round now T = go (goesOn T)
   where
-    go : (b : Bool) → cond b (record { left = waiting (T .left) now .left; reply = waiting (T .left) now .reply; cells = []; round = T .round }) T .round ≡ T .round
+    go : (b : Bool) → cond b (record { left = waiting (T .left) now .left; reply = waiting (T .left) now .reply; bytes = []; round = T .round }) T .round ≡ T .round
     go true = refl
     go false = refl
 
@@ -140,25 +141,25 @@ step-round W now a out R =
 
 -- ---- the list that a step is lent
 
--- Check 43: one with fewer places than tags is refused
-out-enough : (W : Worker) (now : At) (a : Answer) (out : ℕ) → stepCheck W now a out ≡ 0 → length (W .board .table .tags) ≤ out / 56
+-- Check 43: one without a place for every name that a directory can have is refused
+out-enough : (W : Worker) (now : At) (a : Answer) (out : ℕ) → stepCheck W now a out ≡ 0 → maxNames ≤ out / changeSize
 unfolding stepCheck
-out-enough W now a out e = go (ltb (out / 56) (length (W .board .table .tags))) refl _ e
+out-enough W now a out e = go (ltb (out / changeSize) maxNames) refl _ e
   where
-    go : (b : Bool) → ltb (out / 56) (length (W .board .table .tags)) ≡ b → (m : ℕ) → _≡_ {A = ℕ} (cond b 43 m) 0 → length (W .board .table .tags) ≤ out / 56
+    go : (b : Bool) → ltb (out / changeSize) maxNames ≡ b → (m : ℕ) → _≡_ {A = ℕ} (cond b 43 m) 0 → maxNames ≤ out / changeSize
     go true p m e = absurd (omega arith)
-    go false p m e = ltb-false (out / 56) (length (W .board .table .tags)) p
+    go false p m e = ltb-false (out / changeSize) maxNames p
 
--- so all cells of a step stand in it
-cells-written : (o : Options) (ns : List (List ℕ)) (rows n : ℕ) (W : Worker) → Sound o ns W → Fits rows n (W .board) → (now : At) (a : Answer) (out : List ℕ)
-    → wroteAll out (step W now a (length out) .cells) ≡ wroteCells out (step W now a (length out) .cells)
+-- so all bytes of a step stand in it
+bytes-written : (o : Options) (ns : List (List ℕ)) (rows n : ℕ) → rows ≤ maxNames → (W : Worker) → Sound o ns W → Fits rows n (W .board) → (now : At) (a : Answer) (out : List ℕ)
+    → wroteAll out (step W now a (length out) .bytes) ≡ overBytes out (step W now a (length out) .bytes)
 unfolding step
-cells-written o ns rows n W s f now a out = all-fits out (step W now a (length out) .cells) (go (eqb (stepCheck W now a (length out)) 0) refl)
+bytes-written o ns rows n within W s f now a out = all-fits out (step W now a (length out) .bytes) (go (eqb (stepCheck W now a (length out)) 0) refl)
   where
-    go : (b : Bool) → eqb (stepCheck W now a (length out)) 0 ≡ b → 8 * length (step W now a (length out) .cells) ≤ length out
+    go : (b : Bool) → eqb (stepCheck W now a (length out)) 0 ≡ b → length (step W now a (length out) .bytes) ≤ length out
     go true e =
-        let few = alike-step o ns rows n W s f now a (length out) .cells-few in
-        omega (arith, few, f .table-fits .long, out-enough W now a (length out) (eqb-true (stepCheck W now a (length out)) 0 e))
+        let few = alike-step o ns rows n W s f now a (length out) .bytes-few in
+        omega (arith, few, within, out-enough W now a (length out) (eqb-true (stepCheck W now a (length out)) 0 e))
     go false e = rw e (omega arith)
 
 -- ---- every call
@@ -244,7 +245,7 @@ module _ (o : Options) (ns : List (List ℕ)) (rows n : ℕ) where
     same-call (load clock list) = let x = load-left clock list in record { fits = x .left-fits; after-same = x .left-same; answer-same = refl }
     same-call (steps clock wall kind number message list out) =
         let a = alike-step o ns rows n W s f (at clock wall) (answerOf kind number message list) (length out) in
-        record { fits = a .fits; after-same = a .left-same; answer-same = rw (a .reply-same, a .cells-same) }
+        record { fits = a .fits; after-same = a .left-same; answer-same = rw (a .reply-same, a .bytes-same) }
     same-call (write tag kind word) = let x = write-left tag (valueFrom kind word) in record { fits = x .left-fits; after-same = x .left-same; answer-same = refl }
     same-call stop = record { fits = f; after-same = refl; answer-same = refl }
     same-call lookState = record { fits = f; after-same = refl; answer-same = refl }
@@ -256,23 +257,23 @@ module _ (o : Options) (ns : List (List ℕ)) (rows n : ℕ) where
     same-call (lookTag tag) = record { fits = f; after-same = refl; answer-same = refl }
 
     -- the lists of a step
-    whole-call : (c : Call) → WholeStep (moment c W)
+    whole-call : rows ≤ maxNames → (c : Call) → WholeStep (moment c W)
     unfolding WholeStep
-    whole-call (tier clock tag to) = tt
-    whole-call (load clock list) = tt
-    whole-call (steps clock wall kind number message list out) =
+    whole-call within (tier clock tag to) = tt
+    whole-call within (load clock list) = tt
+    whole-call within (steps clock wall kind number message list out) =
         let now = at clock wall in
         let a = answerOf kind number message list in
-        (λ R e. let r = step-round W now a (length out) R e in (r .1, whole-answered o ns rows n W s f now a (r .0)), cells-written o ns rows n W s f now a out)
-    whole-call (write tag kind word) = tt
-    whole-call stop = tt
-    whole-call lookState = tt
-    whole-call lookStats = tt
-    whole-call lookCounts = tt
-    whole-call (lookGroups out) = tt
-    whole-call (lookTable out) = tt
-    whole-call (lookPanel out) = tt
-    whole-call (lookTag tag) = tt
+        (λ R e. let r = step-round W now a (length out) R e in (r .1, whole-answered o ns rows n W s f now a (r .0)), bytes-written o ns rows n within W s f now a out)
+    whole-call within (write tag kind word) = tt
+    whole-call within stop = tt
+    whole-call within lookState = tt
+    whole-call within lookStats = tt
+    whole-call within lookCounts = tt
+    whole-call within (lookGroups out) = tt
+    whole-call within (lookTable out) = tt
+    whole-call within (lookPanel out) = tt
+    whole-call within (lookTag tag) = tt
 
 -- ---- creation
 
@@ -364,7 +365,7 @@ module _ (s : Setup) (e : creationCheck s ≡ 0) where
         named = configured-below;
         asked-few = omega arith;
         queue-few = omega arith;
-        rooms = record { tags-fit = omega arith; writes-fit = omega arith; queue-fits = omega arith; more = more; cells-fit = omega arith };
+        rooms = record { tags-fit = omega arith; writes-fit = omega arith; queue-fits = omega arith; more = more; bytes-fit = omega arith };
       }
 
 -- ---- lists of calls
@@ -409,4 +410,4 @@ setups-whole s e = setup-whole s e
 -- The lists of every round are whole, and so are the lists that steps leave.
 pub steps-whole : StepsWhole
 unfolding StepsWhole
-steps-whole s e cs = each-fit s e listRoom (omega arith) WholeStep (λ c W v f. whole-call (s .options) (namesOf (s .names) (s .ends)) tagRoom listRoom W v f c) cs
+steps-whole s e cs = each-fit s e listRoom (omega arith) WholeStep (λ c W v f. whole-call (s .options) (namesOf (s .names) (s .ends)) tagRoom listRoom W v f (omega arith) c) cs

@@ -13,7 +13,7 @@ use Rattle.groups.specs.Groups.{Groups}
 use Rattle.rounds.specs.Round.{Round}
 use Rattle.rounds.proofs.OnceLaws.{Whole}
 use Rattle.settings.specs.Configured.{givenGroups}
-use Rattle.lent.specs.Lent.{wroteAll, wroteCells}
+use Rattle.lent.specs.Lent.{overBytes, wroteAll}
 use Rattle.histories.specs.Events.{Each}
 use Rattle.histories.specs.Histories.{atEach, answers, states}
 use Rattle.board.specs.Board.{Board}
@@ -77,7 +77,7 @@ WholeAt W at =
     Whole (byKeys (W .board .keys)) (record { sorted = W .board .askedRoom; wanted = W .board .askedRoom; list = W .board .askedRoom }) (W .head .options)
     (pollingOf (W .board) (W .head .cycle)) (at .clock)
 
--- Of a call on an engine, if it is a step: the round that it works out is the one at the engine as the answer leaves it, and is whole; and all cells of the step stand in
+-- Of a call on an engine, if it is a step: the round that it works out is the one at the engine as the answer leaves it, and is whole; and all bytes of the step stand in
 -- the lent list.
 unfoldable pub WholeStep : Moment → Type 0
 WholeStep m = go (m .call)
@@ -89,7 +89,7 @@ WholeStep m = go (m .call)
         let now = at clock wall in
         let M = answeredTo (m .engine) now (answerOf kind number message list) .left in
         let T = toldBy clock wall kind number message list out (m .engine) in
-        ((R : Round) → T .round ≡ some R → (R ≡ roundAt M now) × WholeAt M now) × (wroteAll out (T .cells) ≡ wroteCells out (T .cells))
+        ((R : Round) → T .round ≡ some R → (R ≡ roundAt M now) × WholeAt M now) × (wroteAll out (T .bytes) ≡ overBytes out (T .bytes))
     go (write tag kind word) = Unit {0}
     go stop = Unit {0}
     go lookState = Unit {0}

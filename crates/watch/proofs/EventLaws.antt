@@ -6,6 +6,8 @@ use lib.ListN.{length, getD}
 use Rattle.lists.specs.Keep.{Below}
 use Rattle.names.specs.Directory.{maxNames}
 use Rattle.table.specs.Tag.{freshTag}
+use Rattle.lent.specs.Lent.{cellBytes}
+use Rattle.lent.specs.Changes.{changeSize}
 use Rattle.board.specs.Board.{boardOf, boardIn}
 use Rattle.polls.specs.Polls.{changesIn}
 use Rattle.board.specs.Regions.{regionsIn}
@@ -24,8 +26,8 @@ unfolding workerIn boardIn boardOf regionsIn
 worker-fit mem k = table-fit _ k
 
 pub event-told : (old new : List ℕ) (r : Reply) (out out' : List ℕ) (W : Worker) (ks : List ℕ)
-    → Stepped old new r out out' (tell W (values (length ks)) (changesIn (W .board) ks)) → length old ≡ memorySize
-    → Below 65536 ks → length ks ≤ maxNames → 56 * length ks ≤ length out
+    → Stepped old new r out out' (tell W (values (length ks)) (cellBytes (changesIn (W .board) ks))) → length old ≡ memorySize
+    → Below 65536 ks → length ks ≤ maxNames → changeSize * length ks ≤ length out
     → told out' (r .count) ≡ map (changeOf (W .board .table .tags)) ks
 event-told old new r out out' W ks S engine below few room =
     let fit : (k : ℕ) → Fit (getD (W .board .table .tags) k freshTag .published) =

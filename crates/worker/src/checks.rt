@@ -10,6 +10,8 @@ ghost use Rattle.worker.specs.Answers.{answer, awaited, isError, either,
 use board::request::asked_count;
 use engine::Engine;
 use heads::progress::Phase;
+use lent::changes::CHANGE;
+use names::directory::MAX_NAMES;
 
 // An answer of the host, but for its list: the kind, the number of a version or of an error, and the number of a message.
 pub struct Answer {
@@ -145,7 +147,7 @@ pub fn step_check(
     requires { ⌜ length (now board) ≡ boardSize ⌝ }
     ensures { λ r. ⌜ r ≡ stepCheck (worker e (boardIn (now (board .entry)))) (at clock wall) (answer a (now (list .entry))) room ⌝ }
 {
-    if room / 56 < 120 {
+    if room / CHANGE < MAX_NAMES {
         return 43;
     }
     if !ieee::times::is_clock(clock) {

@@ -7,8 +7,8 @@ use denote.Ref.{now}
 use lib.ListN.{length, take}
 use lib.Seq.{take-all}
 use borrow.Author.Needs.{needs}
-use Rattle.lent.specs.Lent.{wroteCells, recordPut, records}
-use Rattle.lent.proofs.LentLaws.{all-fits, all-kept, records-none, length-records, put-nth}
+use Rattle.lent.specs.Lent.{cellBytes, overBytes, recordPut, records}
+use Rattle.lent.proofs.LentLaws.{cells-fit, cells-left, records-none, length-records, put-nth}
 use Rattle.board.specs.Regions.{regionsIn}
 use Rattle.board.specs.Board.{boardIn, boardOf, rowCells}
 use Rattle.board.proofs.looks.put_table.Statement.{statement}
@@ -17,7 +17,7 @@ use Rattle.board.proofs.looks.put_table.Tie as tie
 abbrev Inv-loop : tie.InvT-loop
 Inv-loop board out₀ n i₀ out i =
     let B = boardIn board in
-    (i ≤ n) × ((length out ≡ length out₀) × (out ≡ wroteCells out₀ (records (rowCells B) (take i (B .table .order)))))
+    (i ≤ n) × ((length out ≡ length out₀) × (out ≡ overBytes out₀ (cellBytes (records (rowCells B) (take i (B .table .order))))))
 
 abbrev μ-loop : tie.MeasureT-loop
 μ-loop board out₀ n i₀ out i = n - i
@@ -41,7 +41,7 @@ returns c =
     let B = boardIn (now (s .args .board)) in
     let out = now (s .args .out) in
     let xs = B .table .order in
-    (c .before .count .ensures, sym (all-kept out (records (rowCells B) xs) (omega (arith, length-records (rowCells B) 2 (λ k. refl) xs, c .before .count .ensures))))
+    (c .before .count .ensures, sym (cells-left out (records (rowCells B) xs) (omega (arith, length-records (rowCells B) 2 (λ k. refl) xs, c .before .count .ensures))))
 
 loop-holds : tie.Need-loop-holds Inv-loop μ-loop
 loop-holds c =
@@ -92,7 +92,7 @@ loop-again c =
         put .kept .1 .0 ∙ l .inv .1 .0,
         put .ensures
             ∙ ap (λ (o : List ℕ). recordPut o (2 * i) (rowCells B (k .result))) (l .inv .1 .1)
-            ∙ ap (λ (k : ℕ). recordPut (wroteCells out (records (rowCells B) (take i xs))) (2 * i) (rowCells B k)) (k .ensures)
+            ∙ ap (λ (k : ℕ). recordPut (overBytes out (cellBytes (records (rowCells B) (take i xs)))) (2 * i) (rowCells B k)) (k .ensures)
             ∙ put-nth (rowCells B) 2 (λ k. refl) out xs i 0 (omega (arith, n .ensures)) (omega (arith, n .ensures)),
       ),
     )
@@ -111,8 +111,8 @@ returns-2 c =
     let n = c .before .before .before .count in (
       n .ensures,
       l .inv .1 .1
-          ∙ ap (λ (ks : List ℕ). wroteCells out (records (rowCells B) ks)) (take-all (l .i) xs (omega (arith, n .ensures)))
-          ∙ sym (all-fits out (records (rowCells B) xs) (omega (arith, length-records (rowCells B) 2 (λ k. refl) xs, n .ensures))),
+          ∙ ap (λ (ks : List ℕ). overBytes out (cellBytes (records (rowCells B) ks))) (take-all (l .i) xs (omega (arith, n .ensures)))
+          ∙ sym (cells-fit out (records (rowCells B) xs) (omega (arith, length-records (rowCells B) 2 (λ k. refl) xs, n .ensures))),
     )
 
 pub put-table-spec : {M : Type 1} → statement M

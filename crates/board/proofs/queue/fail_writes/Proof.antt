@@ -5,7 +5,7 @@ use Prim.Native.Nat.{ℕ}
 use denote.Ref.{now}
 use lib.ListN.{length, replicate}
 use Rattle.tags.specs.Lists.{listIn}
-use Rattle.lent.specs.Lent.{wroteAll}
+use Rattle.lent.specs.Lent.{tagBytes, wroteAll}
 use Rattle.board.specs.Board.{boardIn, queuedTags}
 use Rattle.board.proofs.PartLaws.{queue-put, tags-queued}
 use borrow.Author.Needs.{needs}
@@ -67,7 +67,7 @@ returns c =
       c .count .ensures ∙ ap (λ (l : List ℕ). length l) tags,
       (
         queue-put bs (clear .last .0) (s .pre) [] (clear .kept .0) (clear .ensures),
-        c .before .before .before .before .put-tags .ensures ∙ ap (wroteAll (now (s .args .out))) tags,
+        c .before .before .before .before .put-tags .ensures ∙ ap (λ (l : List ℕ). wroteAll (now (s .args .out)) (tagBytes l)) tags,
       ),
     )
 

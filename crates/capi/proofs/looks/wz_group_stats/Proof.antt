@@ -2,7 +2,7 @@
 use Prim.Native.Nat.{_/_}
 use denote.Ref.{now}
 use lib.ListN.{length}
-use Rattle.lent.specs.Lent.{wroteAll}
+use Rattle.lent.specs.Lent.{cellBytes, wroteAll}
 use Rattle.capi.specs.Memory.{workerIn}
 use Rattle.capi.specs.Looks.{groupCells, groupCount}
 use Rattle.capi.proofs.LookLaws.{list-alien, list-own}
@@ -22,7 +22,7 @@ returns c =
     let mem = now (s .args .mem) in
     let out = now (s .args .out) in
     let W = workerIn mem in
-    list-alien mem (length out / 40) 16 (groupCount W out) out (wroteAll out (groupCells W)) (c .listed .result) (c .before .if1 .taken) (c .listed .ensures)
+    list-alien mem (length out / 40) 16 (groupCount W out) out (wroteAll out (cellBytes (groupCells W))) (c .listed .result) (c .before .if1 .taken) (c .listed .ensures)
 
 sub-group-stats : tie.Need-sub-group-stats
 sub-group-stats c = search needs
@@ -47,7 +47,7 @@ returns-2 c =
     let out = now (s .args .out) in
     let W = workerIn mem in
     let call = c .before .before .group-stats in
-    list-own mem (length out / 40) 16 (groupCount W out) out (call .last .1 .0) (wroteAll out (groupCells W)) (call .result) (c .before .before .before .before .before .if1 .left) (call .ensures .0) (call .ensures .1)
+    list-own mem (length out / 40) 16 (groupCount W out) out (call .last .1 .0) (wroteAll out (cellBytes (groupCells W))) (call .result) (c .before .before .before .before .before .if1 .left) (call .ensures .0) (call .ensures .1)
 
 pub wz-group-stats-spec : {M : Type 1} → statement M
 wz-group-stats-spec =

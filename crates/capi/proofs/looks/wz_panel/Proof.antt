@@ -1,7 +1,8 @@
 -- `capi::looks::wz_panel` meets its contract.
 use denote.Ref.{now}
 use lib.ListN.{length}
-use Rattle.panel.specs.Panel.{written}
+use Rattle.names.specs.Directory.{maxNames}
+use Rattle.panel.specs.Panel.{panelRoom, written}
 use Rattle.capi.specs.Memory.{workerIn}
 use Rattle.capi.specs.Looks.{panelBytes, panelCount}
 use Rattle.capi.proofs.LookLaws.{list-alien, list-own}
@@ -21,7 +22,7 @@ returns c =
     let mem = now (s .args .mem) in
     let out = now (s .args .out) in
     let W = workerIn mem in
-    list-alien mem (length out) 241 (panelCount W out) out (written out (panelBytes W)) (c .listed .result) (c .before .if1 .taken) (c .listed .ensures)
+    list-alien mem (length out) (panelRoom maxNames) (panelCount W out) out (written out (panelBytes W)) (c .listed .result) (c .before .if1 .taken) (c .listed .ensures)
 
 sub-panel : tie.Need-sub-panel
 sub-panel c = search needs
@@ -46,7 +47,7 @@ returns-2 c =
     let out = now (s .args .out) in
     let W = workerIn mem in
     let call = c .before .before .panel in
-    list-own mem (length out) 241 (panelCount W out) out (call .last .1 .0) (written out (panelBytes W)) (call .result) (c .before .before .before .before .before .if1 .left) (call .ensures .0) (call .ensures .1)
+    list-own mem (length out) (panelRoom maxNames) (panelCount W out) out (call .last .1 .0) (written out (panelBytes W)) (call .result) (c .before .before .before .before .before .if1 .left) (call .ensures .0) (call .ensures .1)
 
 pub wz-panel-spec : {M : Type 1} → statement M
 wz-panel-spec =

@@ -2,7 +2,8 @@
 use Prim.Native.Nat.{_/_}
 use denote.Ref.{now}
 use lib.ListN.{length}
-use Rattle.lent.specs.Lent.{records, wroteAll}
+use Rattle.names.specs.Directory.{maxNames}
+use Rattle.lent.specs.Lent.{cellBytes, records, wroteAll}
 use Rattle.board.specs.Board.{rowCells}
 use Rattle.capi.specs.Memory.{workerIn}
 use Rattle.capi.specs.Looks.{tableCount}
@@ -23,7 +24,7 @@ returns c =
     let mem = now (s .args .mem) in
     let out = now (s .args .out) in
     let W = workerIn mem in
-    list-alien mem (length out / 16) (length (W .board .table .tags)) (tableCount W out) out (wroteAll out (records (rowCells (W .board)) (W .board .table .order))) (c .listed .result) (c .before .if1 .taken) (c .listed .ensures)
+    list-alien mem (length out / 16) maxNames (tableCount W out) out (wroteAll out (cellBytes (records (rowCells (W .board)) (W .board .table .order)))) (c .listed .result) (c .before .if1 .taken) (c .listed .ensures)
 
 sub-table : tie.Need-sub-table
 sub-table c = search needs
@@ -48,7 +49,7 @@ returns-2 c =
     let out = now (s .args .out) in
     let W = workerIn mem in
     let call = c .before .before .table in
-    list-own mem (length out / 16) (length (W .board .table .tags)) (tableCount W out) out (call .last .1 .0) (wroteAll out (records (rowCells (W .board)) (W .board .table .order))) (call .result) (c .before .before .before .before .before .if1 .left) (call .ensures .0) (call .ensures .1)
+    list-own mem (length out / 16) maxNames (tableCount W out) out (call .last .1 .0) (wroteAll out (cellBytes (records (rowCells (W .board)) (W .board .table .order)))) (call .result) (c .before .before .before .before .before .if1 .left) (call .ensures .0) (call .ensures .1)
 
 pub wz-table-spec : {M : Type 1} → statement M
 wz-table-spec =

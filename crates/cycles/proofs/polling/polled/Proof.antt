@@ -1,6 +1,7 @@
 -- `cycles::polling::polled` meets its contract.
 use mathlib.Core.Path.{_≡_, ap, sym, _∙_, subst}
 use mathlib.Core.Bool.{Bool, true, false, cond, false≢true}
+use mathlib.Core.List.{List}
 use denote.Ref.{now}
 use lib.IntN.{ℤ}
 use mir.Val.{SFits}
@@ -10,7 +11,7 @@ use Rattle.board.specs.Board.{Board, boardIn}
 use Prim.Native.Nat.{ℕ}
 use lib.Ieee.{Float}
 use lib.ListN.{length}
-use Rattle.lent.specs.Lent.{wroteAll}
+use Rattle.lent.specs.Lent.{tagBytes, wroteAll}
 use Rattle.heads.specs.Progress.{withRound}
 use Rattle.heads.specs.declared.progress.Phase.the-variants.{Read}
 use Rattle.engine.specs.Engine.{withCycle, withProgress}
@@ -72,7 +73,7 @@ returns c =
     ap (λ (e : Engine). worker e (boardIn (p .last .0))) next ∙ ap (worker (withProgress cycled round)) (p .ensures .board-is) in
     let asked : boardIn (p .last .0) .asked ≡ R .list = ap (λ (X : Board). X .asked) (p .ensures .board-is) in
     let count : c .before .before .before .before .before .before .before .before .asked-count .result ≡ length (R .list) = c .before .before .before .before .before .before .before .before .asked-count .ensures ∙ ap (length {A = ℕ}) asked in
-    let told = tell (phased after Read) (reply.read (length (R .list))) (R .list) in
+    let told = tell (phased after Read) (reply.read (length (R .list))) (tagBytes (R .list)) in
     let fit : SFits w64 (a .wall) = c .before .before .before .before .before .before .before .before .before .before .before .before .before .before .before .before .before .before .before .fits .wall in
     let so-far = worker (c .before .before .before .before .before .before .before .before .before .before .with-progress .result) (boardIn (p .last .0)) in
     let y = c .before .before .before .before .reading in
@@ -119,7 +120,7 @@ returns-2 c =
     ap (λ (e : Engine). worker e (boardIn (p .last .0))) next ∙ ap (worker (withProgress cycled round)) (p .ensures .board-is) in
     let asked : boardIn (p .last .0) .asked ≡ R .list = ap (λ (X : Board). X .asked) (p .ensures .board-is) in
     let count : c .before .before .before .before .before .before .before .before .asked-count .result ≡ length (R .list) = c .before .before .before .before .before .before .before .before .asked-count .ensures ∙ ap (length {A = ℕ}) asked in
-    let told = tell (phased after Read) (reply.read (length (R .list))) (R .list) in
+    let told = tell (phased after Read) (reply.read (length (R .list))) (tagBytes (R .list)) in
     let q = c .before .before .before .before .put-asked in
     let test : isEmpty (R .list) ≡ false = some-is {A = ℕ} (R .list) (λ e. c .before .before .before .before .before .before .before .if1 .left (count ∙ e)) in
     let inner = cond (isEmpty (R .list)) (reading after t) told in
@@ -129,7 +130,7 @@ returns-2 c =
       head-is = ap (λ (s : Said). s .head) (c .phased .ensures) ∙ ap (λ (e : Engine). saidIn e Read (c .before .listed .result) .head) next;
       board-is = p .ensures .board-is;
       reply-is = ap (λ (s : Said). s .reply) (c .phased .ensures) ∙ (c .before .listed .ensures ∙ ap reply.read (q .ensures .0 ∙ ap (length {A = ℕ}) asked));
-      out-is = q .ensures .1 ∙ ap (wroteAll (now (a .out))) asked;
+      out-is = q .ensures .1 ∙ ap (λ (l : List ℕ). wroteAll (now (a .out)) (tagBytes l)) asked;
       silent = λ h. absurd (false≢true h);
     }))
 

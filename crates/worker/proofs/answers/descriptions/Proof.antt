@@ -7,7 +7,7 @@ use Prim.Native.Nat.{ℕ}
 use lib.Dec.{eqb}
 use lib.ListN.{length}
 use denote.Ref.{now}
-use Rattle.lent.specs.Lent.{wroteAll}
+use Rattle.lent.specs.Lent.{tagBytes, wroteAll}
 use Rattle.descriptions.specs.Descriptions.{learnt, learntNone}
 use Rattle.board.specs.Regions.{boardSize}
 use Rattle.board.specs.Board.{Board, boardIn, withRecords}
@@ -60,9 +60,9 @@ returns c =
     (λ w. ap boardIn (w .5) ∙ w .2 .ensures ∙ ap (λ (b : Bool). withRecords B (cond b some none)) (sym (ne-eqb _ _ (w .0 .left)))) (c .before .before .before .before .before .before .before .if1 .came) in
     let same : boardIn (c .before .before .before .before .before .before .before .if1 .board) .asked ≡ B .asked = ap (λ (x : Board). x .asked) kept in
     let count : y .result ≡ length (B .asked) = y .ensures .0 ∙ ap (λ (l : List ℕ). length l) same in
-    let wrote : y .last .1 .0 ≡ wroteAll (now (a .out)) (B .asked) = y .ensures .1 ∙ ap (wroteAll (now (a .out))) same in
+    let wrote : y .last .1 .0 ≡ wroteAll (now (a .out)) (tagBytes (B .asked)) = y .ensures .1 ∙ ap (λ (l : List ℕ). wroteAll (now (a .out)) (tagBytes l)) same in
     let r : c .before .listed .result ≡ reply.info (length (B .asked)) = c .before .listed .ensures ∙ ap (λ (n : ℕ). reply.info n) count in
-    told-done (a .e) (withRecords B known) InfoTold (reply.info (length (B .asked))) (B .asked) _ _ _ _ (c .phased .ensures ∙ ap (saidIn (a .e) InfoTold) r) kept wrote refl
+    told-done (a .e) (withRecords B known) InfoTold (reply.info (length (B .asked))) (tagBytes (B .asked)) _ _ _ _ (c .phased .ensures ∙ ap (saidIn (a .e) InfoTold) r) kept wrote refl
 
 pub descriptions-spec : {M : Type 1} → statement M
 descriptions-spec =

@@ -9,6 +9,7 @@ use lib.IntN.{ℤ}
 use mir.Syntax.{w64}
 use mir.ValLaws.{toZ-ofZ}
 use Rattle.board.specs.Board.{Board, boardIn}
+use Rattle.lent.specs.Lent.{cellBytes}
 use Rattle.polls.specs.Polls.{Changing, appliedTo, changesIn}
 use Rattle.heads.specs.declared.progress.Phase.the-variants.{ValuesTold}
 use Rattle.replies.specs.Reply as reply
@@ -43,7 +44,7 @@ returns c =
     let t = at (a .clock) (a .wall) in
     let C = appliedTo B list (a .e .progress .start) (a .wall) true in
     let N = worker (a .e) (C .board) in
-    let told = tell (phased N ValuesTold) (reply.values (length (C .changes))) (changesIn (C .board) (C .changes)) in
+    let told = tell (phased N ValuesTold) (reply.values (length (C .changes))) (cellBytes (changesIn (C .board) (C .changes))) in
     let on = cond (isEmpty (C .changes)) (reading N t) told in
     let test : eqb (a .a .kind) 6 ≡ true = eq-eqb _ _ (c .before .before .before .before .before .before .before .if1 .taken) in
     done-is (down W) (results W t A) _ _ _ _ (ap (λ (b : Bool). cond b (down W) on) (sym test)) (c .before .before .before .before .down .ensures)
@@ -75,7 +76,7 @@ returns-2 c =
     let made : Changing C (y .result) (boardIn (y .last .0)) (now (a .out)) (y .last .1 .0) =
     subst (λ (z : ℤ). Changing (appliedTo B list (a .e .progress .start) z true) (y .result) (boardIn (y .last .0)) (now (a .out)) (y .last .1 .0)) (toZ-ofZ w64 (a .wall) fit) (y .ensures) in
     let N = worker (a .e) (C .board) in
-    let told = tell (phased N ValuesTold) (reply.values (length (C .changes))) (changesIn (C .board) (C .changes)) in
+    let told = tell (phased N ValuesTold) (reply.values (length (C .changes))) (cellBytes (changesIn (C .board) (C .changes))) in
     let on = cond (isEmpty (C .changes)) (reading N t) told in
     let test : eqb (a .a .kind) 6 ≡ false = ne-eqb _ _ (c .before .before .before .before .before .before .before .before .before .before .before .before .before .before .before .if1 .left) in
     let test2 : isEmpty (C .changes) ≡ true = sym (empty-is (C .changes)) ∙ ap (λ (n : ℕ). eqb n 0) (sym (made .count-is)) ∙ eq-eqb _ _ (c .before .before .before .before .before .before .before .if2 .taken) in
@@ -112,13 +113,13 @@ returns-3 c =
     let made : Changing C (y .result) (boardIn (y .last .0)) (now (a .out)) (y .last .1 .0) =
     subst (λ (z : ℤ). Changing (appliedTo B list (a .e .progress .start) z true) (y .result) (boardIn (y .last .0)) (now (a .out)) (y .last .1 .0)) (toZ-ofZ w64 (a .wall) fit) (y .ensures) in
     let N = worker (a .e) (C .board) in
-    let told = tell (phased N ValuesTold) (reply.values (length (C .changes))) (changesIn (C .board) (C .changes)) in
+    let told = tell (phased N ValuesTold) (reply.values (length (C .changes))) (cellBytes (changesIn (C .board) (C .changes))) in
     let on = cond (isEmpty (C .changes)) (reading N t) told in
     let test : eqb (a .a .kind) 6 ≡ false = ne-eqb _ _ (c .before .before .before .before .before .before .before .before .before .before .if1 .left) in
     let test2 : isEmpty (C .changes) ≡ false = sym (empty-is (C .changes)) ∙ ap (λ (n : ℕ). eqb n 0) (sym (made .count-is)) ∙ ne-eqb _ _ (c .before .before .if2 .left) in
     let r : c .before .listed .result ≡ reply.values (length (C .changes)) = c .before .listed .ensures ∙ ap (λ (n : ℕ). reply.values n) (made .count-is) in
     done-is told (results W t A) _ _ _ _ (ap (λ (b : Bool). cond b (reading N t) told) (sym test2) ∙ ap (λ (b : Bool). cond b (down W) on) (sym test))
-    (told-done (a .e) (C .board) ValuesTold (reply.values (length (C .changes))) (changesIn (C .board) (C .changes)) _ _ _ _ (c .phased .ensures ∙ ap (saidIn (a .e) ValuesTold) r) (made .board-is) (made .out-is) refl)
+    (told-done (a .e) (C .board) ValuesTold (reply.values (length (C .changes))) (cellBytes (changesIn (C .board) (C .changes))) _ _ _ _ (c .phased .ensures ∙ ap (saidIn (a .e) ValuesTold) r) (made .board-is) (made .out-is) refl)
 
 pub results-spec : {M : Type 1} → statement M
 results-spec =
