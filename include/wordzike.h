@@ -1,10 +1,10 @@
 /* Wordzike: a polling engine for programmable controllers, as C functions. For x86-64, System V calling convention. Link
  * target/staticlib/libcapi.a, which `rt staticlib capi` proves and writes. docs/HOST.md is a guide.
  *
- * The host lends all memory and does all input and output. An engine is WZ_MEMORY bytes that wz_create fills; what they
- * hold is the engine's own affair, and nobody else may write them. They may be copied, moved and kept: there are no
- * addresses in them. No function allocates, blocks or keeps an address after it has returned. Calls on one engine must
- * not overlap in time; different engines share nothing.
+ * The host lends all memory and does all input and output. An engine over so many names is WZ_MEMORY(count) bytes that
+ * wz_create fills; what they hold is the engine's own affair, and nobody else may write them. They may be copied, moved and
+ * kept: there are no addresses in them. No function allocates, blocks or keeps an address after it has returned. Calls on
+ * one engine must not overlap in time; different engines share nothing.
  *
  * A tag is its rank in the directory, from 0. Clock readings are seconds from a beginning of the host's own, on a clock that
  * never goes back, read when the answer is there. Wall times are milliseconds, and only stamp entries.
@@ -54,7 +54,8 @@
  *   54  a panel list names a tag twice
  *   55  a tier in a panel list isn't 1 to 3
  *   56  a panel list, and the engine has a tag in a tier already
- *  100  the memory isn't WZ_MEMORY bytes long; this comes before all else, and is no number of document 01
+ *  100  the memory isn't an engine's: its length is WZ_MEMORY of no count from 1 to 120 or, at creation, not WZ_MEMORY of the
+ *       number of names. This comes before all else, but behind 1 at creation, and is no number of document 01
  */
 #ifndef WORDZIKE_H
 #define WORDZIKE_H
@@ -75,7 +76,6 @@ extern "C" {
 #define WZ_NAME 40        /* bytes in a name, at most */
 #define WZ_GROUPS 16      /* groups; their numbers are 0 to 15 */
 #define WZ_WRITES 32      /* writes queued, at most */
-#define WZ_MEMORY 38400   /* an engine */
 #define WZ_SETTING 32     /* a tag's setting */
 #define WZ_CONFIGURED 16  /* a configured group */
 #define WZ_RESULT 32      /* a result of a read */
@@ -86,13 +86,18 @@ extern "C" {
 #define WZ_GROUP_STATS 40 /* a group's statistics */
 #define WZ_TABLE_ROW 16   /* a row of the table */
 
-/* Room in bytes that is asked for, by wz_step, wz_group_stats, wz_table and wz_panel. */
-#define WZ_LIST (WZ_CHANGE * WZ_TAGS)
+/* An engine over `count` names, 1 to WZ_TAGS, in bytes. The length of its memory says how many tags an engine has. */
+#define WZ_MEMORY(count) (3142 + 266 * (size_t)(count))
+
+/* Room in bytes that is asked for, by wz_step, wz_group_stats, wz_table and wz_panel; `count` is the number of names. As yet
+ * the first and the third are those of WZ_TAGS names whatever the count is, and a host that hands it in needs no change once
+ * they go by it. The list of a step can name WZ_WRITES tags, also in an engine of one name: of queued writes. */
+#define WZ_LIST(count) (WZ_CHANGE * (WZ_TAGS + 0 * (size_t)(count)))
 #define WZ_GROUP_STATS_LIST (WZ_GROUP_STATS * WZ_GROUPS)
-#define WZ_TABLE_LIST (WZ_TABLE_ROW * WZ_TAGS)
+#define WZ_TABLE_LIST(count) (WZ_TABLE_ROW * (WZ_TAGS + 0 * (size_t)(count)))
 #define WZ_PANEL_LIST (1 + 2 * WZ_TAGS)
 
-#define WZ_NOT_AN_ENGINE 100 /* memory of another length than WZ_MEMORY */
+#define WZ_NOT_AN_ENGINE 100 /* memory of another length than an engine's */
 
 /* Kinds of values. */
 #define WZ_NULL 0
@@ -285,12 +290,12 @@ typedef struct {
 /* WZ_INTERFACE, of the archive. */
 uint64_t wz_interface(void);
 
-/* Makes an engine in `mem`, whatever was there. It waits for WZ_BEGIN, its clock is 0, no tag is in a tier. All that is
- * handed in beside `mem` is needed for this call alone.
+/* Makes an engine in `mem`, WZ_MEMORY(ends_len) bytes, whatever was there. It waits for WZ_BEGIN, its clock is 0, no tag is in
+ * a tier. All that is handed in beside `mem` is needed for this call alone.
  *   names, ends  the directory: the names' bytes joined, and for each name the place where it ends
  *   settings     a wz_setting for each name, WZ_SETTING bytes each
  *   groups       configured groups, a wz_configured each, WZ_CONFIGURED bytes each
- * Refusals, in this order: 100, 1, 2, 3, 4, 11, 12, 13, 14.
+ * Refusals, in this order: 1 (whatever the memory), 100, 2, 3, 4, 11, 12, 13, 14.
  * Names alike in lower case must have equal settings; this is not checked. */
 uint32_t wz_create(uint8_t *mem, size_t mem_len, const uint8_t *names, size_t names_len, const uint32_t *ends,
                    size_t ends_len, wz_options options, const uint8_t *settings, size_t settings_len,
@@ -318,7 +323,7 @@ uint32_t wz_stop(uint8_t *mem, size_t mem_len);
  *                Of both there may be fewer than asked for, which are then those of the first tags, or more: those past
  *                the tags are ignored. So is a part of a record at the end.
  *   out          room for the list that comes back; bytes past it keep their contents
- * Refusals, in this order: 100, 43 (`out` under WZ_LIST bytes), 21, 22, 41, then 14 (settings) or 42 (results that are
+ * Refusals, in this order: 100, 43 (`out` under WZ_LIST(count) bytes), 21, 22, 41, then 14 (settings) or 42 (results that are
  * covered). A kind, or an error number with WZ_WRITE_REFUSED, that stands for nothing is 41.
  * After a refusal the engine still waits for the answer to its last request: the host keeps that request and its list. */
 wz_reply wz_step(uint8_t *mem, size_t mem_len, double clock, int64_t wall, uint64_t kind, uint64_t number,
@@ -340,7 +345,7 @@ wz_counts_look wz_tier_counts(const uint8_t *mem, size_t mem_len);
 wz_list_look wz_group_stats(const uint8_t *mem, size_t mem_len, uint8_t *out, size_t out_len);
 
 /* The table, in order of entry. A wz_table_row each into `out`.
- * Refusals, in this order: 100, 43 (`out` under WZ_TABLE_LIST bytes). */
+ * Refusals, in this order: 100, 43 (`out` under WZ_TABLE_LIST(count) bytes). */
 wz_list_look wz_table(const uint8_t *mem, size_t mem_len, uint8_t *out, size_t out_len);
 
 /* The panel list, into `out`: a count byte n, n tag bytes, n tier bytes, in table order; a tag in grace has tier 2.
@@ -351,11 +356,12 @@ wz_list_look wz_panel(const uint8_t *mem, size_t mem_len, uint8_t *out, size_t o
  * the tag was last read; an entry that turns stale keeps it. Refusals, in this order: 100, 23. */
 wz_tag_look wz_tag(const uint8_t *mem, size_t mem_len, uint32_t tag);
 
-/* Sizes in bytes, asked for: WZ_MEMORY, WZ_LIST, WZ_GROUP_STATS_LIST, WZ_TABLE_LIST, WZ_PANEL_LIST. */
-uint64_t wz_memory_size(void);
-uint64_t wz_list_size(void);
+/* Sizes in bytes, asked for: WZ_MEMORY(count), or 0 for a count that no directory has; WZ_LIST(count), WZ_GROUP_STATS_LIST,
+ * WZ_TABLE_LIST(count), WZ_PANEL_LIST. */
+uint64_t wz_memory_size(uint32_t count);
+uint64_t wz_list_size(uint32_t count);
 uint64_t wz_group_stats_size(void);
-uint64_t wz_table_size(void);
+uint64_t wz_table_size(uint32_t count);
 uint64_t wz_panel_size(void);
 
 #ifdef __cplusplus

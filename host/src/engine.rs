@@ -11,8 +11,6 @@ pub const INTERFACE: u64 = 2;
 pub const TAGS: usize = 120;
 /// Groups, at most.
 pub const GROUPS: usize = 16;
-/// Bytes of an engine.
-pub const MEMORY: usize = 38400;
 const LIST: usize = TAGS * 72;
 const PANEL: usize = 1 + 2 * TAGS;
 
@@ -20,6 +18,11 @@ const PANEL: usize = 1 + 2 * TAGS;
 /// written for.
 pub fn interface() -> u64 {
     ffi::interface()
+}
+
+/// Bytes of an engine over so many names: 3,142 and 266 for each. 0 for a number of names that no directory has.
+pub fn memory_size(count: usize) -> usize {
+    u32::try_from(count).map_or(0, |count| ffi::memory_size(count) as usize)
 }
 
 /// What the host answers to a request, or to an event.
@@ -194,7 +197,7 @@ impl Engine {
         let (mut list, mut configured) = (Vec::new(), Vec::new());
         put(&mut list, settings.iter().map(|s| s.cells()));
         put(&mut configured, groups.iter().map(|g| [u64::from(g.number), g.rate.into()]));
-        let mut memory = vec![0; MEMORY].into_boxed_slice();
+        let mut memory = vec![0; memory_size(names.len())].into_boxed_slice();
         Refusal::check(ffi::create(&mut memory, &joined, &ends, options.handed(), &list, &configured).into())?;
         Ok(Engine { memory, list })
     }
@@ -309,7 +312,7 @@ impl Engine {
         })
     }
 
-    /// The engine's bytes. What they hold is its own affair.
+    /// The engine's bytes, as many as [`memory_size`] says. What they hold is its own affair.
     pub fn memory(&self) -> &[u8] {
         &self.memory
     }

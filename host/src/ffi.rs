@@ -154,6 +154,11 @@ unsafe extern "C" {
     fn wz_table(mem: *const u8, mem_len: usize, out: *mut u8, out_len: usize) -> ListLook;
     fn wz_panel(mem: *const u8, mem_len: usize, out: *mut u8, out_len: usize) -> ListLook;
     fn wz_tag(mem: *const u8, mem_len: usize, tag: u32) -> TagLook;
+    fn wz_memory_size(count: u32) -> u64;
+    fn wz_list_size(count: u32) -> u64;
+    fn wz_group_stats_size() -> u64;
+    fn wz_table_size(count: u32) -> u64;
+    fn wz_panel_size() -> u64;
 }
 
 /// `wz_interface`.
@@ -253,4 +258,29 @@ pub fn panel(mem: &[u8], out: &mut [u8]) -> ListLook {
 /// `wz_tag`.
 pub fn tag(mem: &[u8], tag: u32) -> TagLook {
     unsafe { wz_tag(mem.as_ptr(), mem.len(), tag) }
+}
+
+/// `wz_memory_size`.
+pub fn memory_size(count: u32) -> u64 {
+    unsafe { wz_memory_size(count) }
+}
+
+/// `wz_list_size`.
+pub fn list_size(count: u32) -> u64 {
+    unsafe { wz_list_size(count) }
+}
+
+/// `wz_group_stats_size`.
+pub fn group_stats_size() -> u64 {
+    unsafe { wz_group_stats_size() }
+}
+
+/// `wz_table_size`.
+pub fn table_size(count: u32) -> u64 {
+    unsafe { wz_table_size(count) }
+}
+
+/// `wz_panel_size`.
+pub fn panel_size() -> u64 {
+    unsafe { wz_panel_size() }
 }

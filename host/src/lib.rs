@@ -61,8 +61,8 @@ mod refusal;
 mod values;
 
 pub use engine::{
-    Answer, Engine, Event, GROUPS, GroupStats, INTERFACE, MEMORY, Outcome, Reply, Request, State, Stats, TAGS, Tag,
-    interface,
+    Answer, Engine, Event, GROUPS, GroupStats, INTERFACE, Outcome, Reply, Request, State, Stats, TAGS, Tag, interface,
+    memory_size,
 };
 pub use refusal::Refusal;
 pub use values::{Entry, Error, ErrorKind, Group, Options, Quality, Setting, Value};

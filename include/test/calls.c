@@ -27,26 +27,29 @@ SIZED(tag_look_size, sizeof(wz_tag_look) == 88);
 static int wrong;
 #define IS(what) ((what) ? (void)0 : (void)(wrong++, printf("line %d: not %s\n", __LINE__, #what)))
 
+#define COUNT 3 /* names */
+
 /* Lists as bytes, for the functions, and as what stands in them. */
 static union {
-    uint8_t bytes[WZ_LIST];
+    uint8_t bytes[WZ_LIST(COUNT)];
     uint16_t tags[WZ_TAGS];
     wz_change changes[WZ_TAGS];
     wz_group_row groups[WZ_GROUPS];
     wz_table_row rows[WZ_TAGS];
 } out;
 static union {
-    uint8_t bytes[3 * WZ_SETTING];
-    wz_setting settings[3];
-    wz_result results[3];
-    uint64_t descriptions[3];
+    uint8_t bytes[COUNT * WZ_SETTING];
+    wz_setting settings[COUNT];
+    wz_result results[COUNT];
+    uint64_t descriptions[COUNT];
 } list;
-static uint8_t mem[WZ_MEMORY];
-static wz_setting settings[3];
+static uint8_t mem[WZ_MEMORY(COUNT)];
+static wz_setting settings[COUNT];
 static const uint8_t names[] = {'A', 'A', '.', '3', 'b'};
-static const uint32_t ends[] = {1, 4, 5};
+static const uint32_t ends[COUNT] = {1, 4, 5};
 
-static uint32_t create(void)
+/* An engine over the first `count` names, in memory of so many bytes. */
+static uint32_t create_in(size_t bytes, size_t count)
 {
     wz_options options = {1.0, 2.0, 3.0};
     wz_configured group = {7, 250, UINT32_MAX};
@@ -55,8 +58,13 @@ static uint32_t create(void)
     settings[2].rate = 500;
     settings[2].unused = 1; /* not looked at */
     settings[2].described = 1;
-    return wz_create(mem, sizeof mem, names, sizeof names, ends, 3, options, (const uint8_t *)settings, sizeof settings,
+    return wz_create(mem, bytes, names, sizeof names, ends, count, options, (const uint8_t *)settings, sizeof settings,
                      (const uint8_t *)&group, sizeof group);
+}
+
+static uint32_t create(void)
+{
+    return create_in(sizeof mem, COUNT);
 }
 
 static wz_reply step(double clock, int64_t wall, uint64_t kind, uint64_t number, size_t bytes)
@@ -169,11 +177,14 @@ static void refusals(void)
     IS(wz_set_tier(mem, sizeof mem, 5.0, 0, 1) == 22);
     IS(wz_write(mem, sizeof mem, 3, WZ_NULL, 0) == 23);
     IS(wz_load(mem, sizeof mem, 5.75, list.bytes, 0) == 51);
-    IS(wz_stop(mem, sizeof mem - 1) == WZ_NOT_AN_ENGINE);
+    IS(wz_stop(mem, sizeof mem - 1) == WZ_NOT_AN_ENGINE && wz_stop(mem, WZ_MEMORY(0)) == WZ_NOT_AN_ENGINE);
+    IS(create_in(sizeof mem, COUNT - 1) == WZ_NOT_AN_ENGINE && create_in(WZ_MEMORY(2), COUNT) == WZ_NOT_AN_ENGINE);
+    IS(create_in(WZ_MEMORY(2), 2) == 2); /* names past the last end place */
+    IS(create_in(sizeof mem, 0) == 1 && create_in(0, 0) == 1);
     IS(wz_panel(mem, sizeof mem, out.bytes, WZ_PANEL_LIST - 1).code == 43);
-    IS(wz_table(mem, sizeof mem, out.bytes, WZ_TABLE_LIST - 1).code == 43);
+    IS(wz_table(mem, sizeof mem, out.bytes, WZ_TABLE_LIST(COUNT) - 1).code == 43);
     IS(wz_group_stats(mem, sizeof mem, out.bytes, WZ_GROUP_STATS_LIST - 1).code == 43);
-    IS(wz_step(mem, sizeof mem, 5.75, 0, WZ_WAITED, 0, 0, NULL, 0, out.bytes, WZ_LIST - 1).code == 43);
+    IS(wz_step(mem, sizeof mem, 5.75, 0, WZ_WAITED, 0, 0, NULL, 0, out.bytes, WZ_LIST(COUNT) - 1).code == 43);
     IS(wz_tag(mem, sizeof mem, 3).code == 23);
     IS(step(5.75, 0, WZ_TAKEN, 0, 0).code == 41);
 }
@@ -193,11 +204,14 @@ static void the_end(void)
 
 static void sizes(void)
 {
+    uint32_t count;
     IS(wz_interface() == WZ_INTERFACE);
-    IS(wz_memory_size() == WZ_MEMORY);
-    IS(wz_list_size() == WZ_LIST);
+    for (count = 1; count <= WZ_TAGS; count++)
+        IS(wz_memory_size(count) == WZ_MEMORY(count));
+    IS(wz_memory_size(0) == 0 && wz_memory_size(WZ_TAGS + 1) == 0 && wz_memory_size(UINT32_MAX) == 0);
+    for (count = 0; count <= WZ_TAGS; count++)
+        IS(wz_list_size(count) == WZ_LIST(count) && wz_table_size(count) == WZ_TABLE_LIST(count));
     IS(wz_group_stats_size() == WZ_GROUP_STATS_LIST);
-    IS(wz_table_size() == WZ_TABLE_LIST);
     IS(wz_panel_size() == WZ_PANEL_LIST);
 }
 

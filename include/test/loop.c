@@ -10,12 +10,14 @@ typedef struct {
     size_t bytes;
 } answer;
 
+#define NAMES 2
+
 static double clock_now, temperature = 20.0;
 static int64_t wall_now = 1000;
 static int reads, changes, outcomes, connected;
-static wz_entry shown[2];
-static uint8_t engine[WZ_MEMORY];
-static const wz_setting settings[2]; /* no deadband, no group, no description set */
+static wz_entry shown[NAMES];
+static uint8_t engine[WZ_MEMORY(NAMES)];
+static const wz_setting settings[NAMES]; /* no deadband, no group, no description set */
 
 static answer plain(uint64_t kind)
 {
@@ -100,23 +102,23 @@ static void tell(const wz_reply *r, const uint16_t *tags)
 /* from here */
 /* Each list as bytes, for the engine, and as what can stand in it. */
 static union {
-    uint8_t bytes[WZ_LIST];
-    uint16_t tags[WZ_TAGS];
-    wz_change changes[WZ_TAGS];
+    uint8_t bytes[WZ_LIST(NAMES)];
+    uint16_t tags[WZ_LIST(NAMES) / WZ_LISTED];
+    wz_change changes[NAMES];
 } out;
 
 static union {
-    uint8_t bytes[WZ_TAGS * WZ_SETTING];
-    wz_setting settings[WZ_TAGS];
-    wz_result results[WZ_TAGS];
-    uint64_t descriptions[WZ_TAGS];
+    uint8_t bytes[NAMES * WZ_SETTING];
+    wz_setting settings[NAMES];
+    wz_result results[NAMES];
+    uint64_t descriptions[NAMES];
 } list;
 
-static int poll_plc(uint8_t *mem)
+static int poll_plc(uint8_t *mem, size_t mem_len)
 {
     answer a = plain(WZ_BEGIN);
     for (;;) {
-        wz_reply r = wz_step(mem, WZ_MEMORY, clock_now, wall_now, a.kind, a.number, a.message, list.bytes, a.bytes,
+        wz_reply r = wz_step(mem, mem_len, clock_now, wall_now, a.kind, a.number, a.message, list.bytes, a.bytes,
                              out.bytes, sizeof out.bytes);
         if (r.code != 0)
             return (int)r.code; /* a mistake of the host: nothing has changed */
@@ -140,18 +142,18 @@ static int poll_plc(uint8_t *mem)
 int main(void)
 {
     static const uint8_t names[] = {'C', 'o', 'u', 'n', 't', 'T', 'e', 'm', 'p'};
-    static const uint32_t ends[] = {5, 9};
+    static const uint32_t ends[NAMES] = {5, 9};
     wz_options options = {1.0, 2.0, 3.0};
     int code = wz_interface() == WZ_INTERFACE ? 0 : -1;
     if (code == 0)
-        code = (int)wz_create(engine, sizeof engine, names, sizeof names, ends, 2, options, (const uint8_t *)settings,
+        code = (int)wz_create(engine, sizeof engine, names, sizeof names, ends, NAMES, options, (const uint8_t *)settings,
                               sizeof settings, NULL, 0);
     if (code == 0)
         code = (int)wz_set_tier(engine, sizeof engine, 0.0, 1, 1);
     if (code == 0)
         code = (int)wz_set_tier(engine, sizeof engine, 0.0, 0, 2);
     if (code == 0)
-        code = poll_plc(engine);
+        code = poll_plc(engine, sizeof engine);
     /* a first reading of each tag and the one written are told */
     if (code != 0 || connected != 1 || outcomes != 1 || changes != 3 || reads < 10 ||
         shown[0].value.word != 3 || shown[1].value.word != bits(25.5) || shown[1].quality != WZ_GOOD) {

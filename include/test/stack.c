@@ -1,6 +1,6 @@
 /* How much stack the functions take: each call is made on a stack of its own that was filled with one byte before, and
- * what has changed afterwards is measured. The calls are those of a host over 120 tags: rounds, writes, lost connections,
- * reloads, tier calls and looks. Fails above STACK_LIMIT, the number in docs/HOST.md. */
+ * what has changed afterwards is measured. The calls are those of a host over one tag, and over 120: rounds, writes, lost
+ * connections, reloads, tier calls and looks. Fails above STACK_LIMIT, the number in docs/HOST.md. */
 #define _XOPEN_SOURCE 700
 #include "../wordzike.h"
 #include <stdio.h>
@@ -21,12 +21,13 @@ static union {
     wz_setting settings[WZ_TAGS];
     wz_result results[WZ_TAGS];
 } list;
-static uint8_t mem[WZ_MEMORY], out[WZ_LIST], names[WZ_TAGS * 4], panel[WZ_PANEL_LIST], stack[STACK];
+static uint8_t mem[WZ_MEMORY(WZ_TAGS)], out[WZ_LIST(WZ_TAGS)], names[WZ_TAGS * 4], panel[WZ_PANEL_LIST], stack[STACK];
 static wz_setting settings[WZ_TAGS];
 static const wz_options options = {0.5, 5.0, 4.0};
 static uint32_t ends[WZ_TAGS];
+static size_t count, mem_len; /* names, and the bytes of an engine over so many */
 static ucontext_t here, there;
-static size_t deepest[CALLS];
+static size_t *deepest; /* by call */
 
 static int what;
 static double clock_now;
@@ -45,24 +46,24 @@ static void call(void)
 {
     switch (what) {
     case CREATE:
-        reply.code = wz_create(mem, sizeof mem, names, sizeof names, ends, WZ_TAGS, options, (const uint8_t *)settings,
-                               sizeof settings, NULL, 0);
+        reply.code = wz_create(mem, mem_len, names, ends[count - 1], ends, count, options, (const uint8_t *)settings,
+                               count * sizeof *settings, NULL, 0);
         break;
-    case LOAD: reply.code += wz_load(mem, sizeof mem, clock_now, panel, sizeof panel); break;
-    case SET_TIER: (void)wz_set_tier(mem, sizeof mem, clock_now, (uint32_t)tag, (uint32_t)tier); break;
-    case WRITE: (void)wz_write(mem, sizeof mem, (uint32_t)tag, WZ_INT, number); break;
-    case STOP: (void)wz_stop(mem, sizeof mem); break;
+    case LOAD: reply.code += wz_load(mem, mem_len, clock_now, panel, 1 + 2 * count); break;
+    case SET_TIER: (void)wz_set_tier(mem, mem_len, clock_now, (uint32_t)tag, (uint32_t)tier); break;
+    case WRITE: (void)wz_write(mem, mem_len, (uint32_t)tag, WZ_INT, number); break;
+    case STOP: (void)wz_stop(mem, mem_len); break;
     case STEP:
-        reply = wz_step(mem, sizeof mem, clock_now, (int64_t)(clock_now * 1000), kind, number, 0, list.bytes, bytes,
+        reply = wz_step(mem, mem_len, clock_now, (int64_t)(clock_now * 1000), kind, number, 0, list.bytes, bytes,
                         out, sizeof out);
         break;
-    case GROUPS: (void)wz_group_stats(mem, sizeof mem, out, sizeof out); break;
-    case TABLE: (void)wz_table(mem, sizeof mem, out, sizeof out); break;
-    case PANEL: (void)wz_panel(mem, sizeof mem, panel, sizeof panel); break;
-    case TAG: (void)wz_tag(mem, sizeof mem, (uint32_t)tag); break;
-    case STATE: (void)wz_state(mem, sizeof mem); break;
-    case STATS: (void)wz_stats(mem, sizeof mem); break;
-    case COUNTS: (void)wz_tier_counts(mem, sizeof mem); break;
+    case GROUPS: (void)wz_group_stats(mem, mem_len, out, sizeof out); break;
+    case TABLE: (void)wz_table(mem, mem_len, out, sizeof out); break;
+    case PANEL: (void)wz_panel(mem, mem_len, panel, sizeof panel); break;
+    case TAG: (void)wz_tag(mem, mem_len, (uint32_t)tag); break;
+    case STATE: (void)wz_state(mem, mem_len); break;
+    case STATS: (void)wz_stats(mem, mem_len); break;
+    case COUNTS: (void)wz_tier_counts(mem, mem_len); break;
     default: (void)wz_interface(); break;
     }
 }
@@ -110,7 +111,7 @@ static void answer(void)
         kind = WZ_VERSION_IS;
         number = 1 + (below(50) == 0);
         memcpy(list.settings, settings, sizeof settings);
-        bytes = sizeof settings;
+        bytes = count * sizeof *settings;
         break;
     case WZ_READ:
     case WZ_READ_BACK:
@@ -134,24 +135,29 @@ static void answer(void)
 static void made(void)
 {
     uint32_t end = 0;
-    int i;
-    for (i = 0; i < WZ_TAGS; i++) {
+    size_t i;
+    for (i = 0; i < count; i++) {
         char name[16];
-        int length = snprintf(name, sizeof name, i % 2 ? "T%02d.5" : "T%02d", i / 2);
+        int length = snprintf(name, sizeof name, i % 2 ? "T%02d.5" : "T%02d", (int)i / 2);
         memcpy(names + end, name, (size_t)length);
         end += (uint32_t)length;
         ends[i] = end;
         settings[i].group = (uint64_t)(i % 17); /* a group, or none */
         settings[i].rate = 500;
         panel[1 + i] = (uint8_t)i;
-        panel[1 + WZ_TAGS + i] = (uint8_t)(1 + i % 3);
+        panel[1 + count + i] = (uint8_t)(1 + i % 3);
     }
-    panel[0] = WZ_TAGS;
+    panel[0] = (uint8_t)count;
 }
 
-static void history(void)
+static void history(size_t of, size_t *most)
 {
     int i;
+    count = of;
+    mem_len = WZ_MEMORY(of);
+    deepest = most;
+    clock_now = 0;
+    made();
     measured(CREATE);
     measured(LOAD);
     kind = WZ_BEGIN;
@@ -160,7 +166,7 @@ static void history(void)
         if (reply.code != 0 || reply.kind == WZ_STOPPED)
             break;
         answer();
-        tag = below(WZ_TAGS);
+        tag = below(count);
         tier = below(4);
         if (i % 5 == 0)
             measured(SET_TIER);
@@ -174,17 +180,22 @@ static void history(void)
 
 int main(void)
 {
+    static const size_t counts[2] = {1, WZ_TAGS};
+    static size_t taken[2][CALLS];
     size_t most = 0;
-    int i;
-    made();
-    history();
-    if (reply.code != 0) {
-        printf("a step was refused with %d\n", (int)reply.code);
-        return 1;
+    int i, k;
+    for (k = 0; k < 2; k++) {
+        history(counts[k], taken[k]);
+        if (reply.code != 0) {
+            printf("a call over %d tags was refused with %d\n", (int)count, (int)reply.code);
+            return 1;
+        }
     }
     for (i = 0; i < CALLS; i++) {
-        printf("%-16s %6lu bytes of stack\n", called[i], (unsigned long)deepest[i]);
-        most = deepest[i] > most ? deepest[i] : most;
+        printf("%-16s %6lu bytes of stack over one tag, %6lu over %d\n", called[i], (unsigned long)taken[0][i],
+               (unsigned long)taken[1][i], WZ_TAGS);
+        for (k = 0; k < 2; k++)
+            most = taken[k][i] > most ? taken[k][i] : most;
     }
     if (most == 0 || most > STACK_LIMIT) {
         printf("not between 1 and %d\n", STACK_LIMIT);

@@ -32,7 +32,7 @@ fn put(bytes: &mut [u8], k: usize, word: u64) {
     bytes[8 * k..8 * k + 8].copy_from_slice(&word.to_le_bytes());
 }
 
-/// The memory that is lent: the engine, and the list of a step.
+/// The memory that is lent: the engine, and the list of a step, both as long as its number of names asks for.
 pub(super) struct Lent {
     pub mem: Vec<u8>,
     pub out: Vec<u8>,
@@ -132,13 +132,18 @@ fn changes(desk: &mut Desk, list: &[u8]) {
 }
 
 impl Lent {
+    /// Room for engines of any number of names.
     pub(super) fn new() -> Lent {
-        Lent { mem: vec![0; wordzike::MEMORY], out: vec![0; CHANGE * wordzike::TAGS] }
+        let most = wordzike::TAGS;
+        let list = wordzike::ffi::list_size(most as u32) as usize;
+        Lent { mem: Vec::with_capacity(wordzike::memory_size(most)), out: Vec::with_capacity(list) }
     }
 
     #[rustfmt::skip]
     pub(super) fn create(&mut self, handed: &Handed) {
         let Handed { names, ends, options, settings, groups, .. } = handed;
+        self.mem.resize(wordzike::memory_size(ends.len()), 0);
+        self.out.resize(wordzike::ffi::list_size(ends.len() as u32) as usize, 0);
         let code = unsafe {
             tape::__real_wz_create(
                 self.mem.as_mut_ptr(), self.mem.len(),

@@ -13,10 +13,10 @@ use Rattle.shown.specs.declared.head.StateLook.{StateLook}
 use Rattle.shown.specs.declared.head.StatsLook.{StatsLook}
 use Rattle.shown.specs.declared.counts.CountsLook.{CountsLook}
 use Rattle.shown.specs.declared.tag.TagLook.{TagLook}
-use Rattle.capi.specs.Memory.{memorySize, notAnEngine, workerIn}
+use Rattle.capi.specs.Memory.{sizeCheck, notAnEngine, workerIn}
 
 abbrev pub isEngine : List ℕ → Bool
-isEngine mem = eqb (length mem) memorySize
+isEngine mem = eqb (sizeCheck (length mem)) 0
 
 unfoldable pub stateLook : List ℕ → StateLook
 stateLook mem = cond (isEngine mem) (stateOf (workerIn mem .head .link)) (noState notAnEngine)

@@ -1,7 +1,7 @@
 // Sizes in bytes, for hosts that would rather ask than copy numbers.
 ghost use mathlib.Core.Path.{_≡_};
-ghost use Rattle.capi.specs.Memory.{interfaceNumber, memorySize, listSize, groupStatsSize, tableSize, panelSize};
-use super::whole::MEMORY;
+ghost use Rattle.capi.specs.Memory.{interfaceNumber, sizeFor, listSize, groupStatsSize, tableSize, panelSize};
+use super::whole::memory_size;
 use lent::changes::CHANGE;
 use names::directory::MAX_NAMES;
 use shown::lists::PANEL;
@@ -14,17 +14,23 @@ pub extern "C" fn wz_interface() -> u64
     2
 }
 
-// An engine.
+// An engine for so many names; 0 for a count that no directory has.
 #[no_mangle]
-pub extern "C" fn wz_memory_size() -> u64
-    ensures { λ r. ⌜ r ≡ memorySize ⌝ }
+pub extern "C" fn wz_memory_size(count: u32) -> u64
+    ensures { λ r. ⌜ r ≡ sizeFor count ⌝ }
 {
-    MEMORY as u64
+    if count == 0 {
+        return 0;
+    }
+    if (MAX_NAMES as u32) < count {
+        return 0;
+    }
+    memory_size(count as usize) as u64
 }
 
-// The list that a step is lent: a change for every name that a directory can have.
+// The list that a step is lent: a change for every name that a directory can have, whatever the count.
 #[no_mangle]
-pub extern "C" fn wz_list_size() -> u64
+pub extern "C" fn wz_list_size(_count: u32) -> u64
     ensures { λ r. ⌜ r ≡ listSize ⌝ }
 {
     (MAX_NAMES * CHANGE) as u64
@@ -38,9 +44,9 @@ pub extern "C" fn wz_group_stats_size() -> u64
     640
 }
 
-// The list that `wz_table` is lent: two cells for every name that a directory can have.
+// The list that `wz_table` is lent: two cells for every name that a directory can have, whatever the count.
 #[no_mangle]
-pub extern "C" fn wz_table_size() -> u64
+pub extern "C" fn wz_table_size(_count: u32) -> u64
     ensures { λ r. ⌜ r ≡ tableSize ⌝ }
 {
     (MAX_NAMES * 16) as u64

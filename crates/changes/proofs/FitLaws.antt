@@ -185,4 +185,4 @@ row-small bs k j h = go (ltb k (length bs / 256)) refl
 pub table-fit : (bs : List ℕ) (k : ℕ) → Fit (getD (tableIn bs) k freshTag .published)
 unfolding tagFrom
 table-fit bs k =
-    rw (table-at bs k) (held-fit (entryWordsAt (getD (rowsIn bs) k noRow) 22) (row-small bs k 24 (omega arith)) (row-small bs k 25 (omega arith)))
+    rw (table-at bs k) (held-fit (entryWordsAt (getD (rowsIn bs) k noRow) 24) (row-small bs k 26 (omega arith)) (row-small bs k 27 (omega arith)))

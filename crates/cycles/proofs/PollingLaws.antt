@@ -6,10 +6,10 @@ use Prim.Native.Nat.{ℕ}
 use borrow.Author.Tests.{eq-eqb, ne-eqb}
 use Rattle.lent.specs.Lent.{wroteAll}
 use Rattle.rounds.specs.Round.{Round}
-use Rattle.writes.specs.Queue.{popped, rest}
-use Rattle.writes.specs.declared.queue.Popped.{Popped}
-use Rattle.writes.specs.declared.queue.Popped.the-variants.{Nothing, Is}
-use Rattle.writes.specs.declared.queue.Write.{Write}
+use Rattle.queue.specs.Queue.{popped, rest}
+use Rattle.queue.specs.declared.Popped.{Popped}
+use Rattle.queue.specs.declared.Popped.the-variants.{Nothing, Is}
+use Rattle.queue.specs.declared.Write.{Write}
 use Rattle.board.specs.Board.{Board, boardIn, withQueue}
 use Rattle.replies.specs.declared.reply.Reply.{Reply}
 use Rattle.replies.specs.declared.reply.Said.{Said}

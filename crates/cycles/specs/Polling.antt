@@ -6,10 +6,10 @@ use Prim.Native.Nat.{ℕ}
 use lib.Ieee.{Float, binary64, round as rounded, sub, le}
 use lib.ListN.{length}
 use Rattle.lent.specs.Lent.{tagBytes}
-use Rattle.rounds.specs.Round.{Round}
-use Rattle.writes.specs.Queue.{popped, rest}
-use Rattle.writes.specs.declared.queue.Popped.{Popped}
-use Rattle.writes.specs.declared.queue.Popped.the-variants.{Nothing, Is}
+use Rattle.rounds.specs.Round.{Round, withPolled, roundOf}
+use Rattle.queue.specs.Queue.{popped, rest}
+use Rattle.queue.specs.declared.Popped.{Popped}
+use Rattle.queue.specs.declared.Popped.the-variants.{Nothing, Is}
 use Rattle.heads.specs.Progress.{withWriting, withRound}
 use Rattle.heads.specs.Stats.{readStats, tailStats}
 use Rattle.heads.specs.declared.progress.After.{After}
@@ -17,8 +17,7 @@ use Rattle.heads.specs.declared.progress.After.the-variants.{Tail, Idle, End}
 use Rattle.heads.specs.declared.progress.Phase.the-variants.{Read, Describe, Version, Wait}
 use Rattle.engine.specs.Engine.{withCycle, withProgress}
 use Rattle.board.specs.Board.{withQueue}
-use Rattle.polls.specs.Polls.{withPolled, roundOf}
-use Rattle.talks.specs.Talks.{describing}
+use Rattle.descriptions.specs.Descriptions.{describing}
 use Rattle.replies.specs.Reply as reply
 use Rattle.replies.specs.Worker.{Worker, At, Told, Done, tell, asks, worker, withBoard, phased, tallied, goesOn}
 use Rattle.replies.specs.declared.reply.Said.{Said}

@@ -45,9 +45,8 @@ use denote.Triple.Spec.{Spec, tripleOf, Meets, exits}
 use Rattle.rounds.specs.declared.tick.Options.{Options}
 use Rattle.rounds.proofs.tick.Options as O
 use Rattle.rounds.proofs.tick.Options.Laws as O′
-use Rattle.capi.specs.Memory.{Called}
-use Rattle.checks.specs.Creation.{Setup, creationCheck}
-use Rattle.capi.specs.Creation.{freshWorker}
+use Rattle.checks.specs.Creation.{Setup}
+use Rattle.capi.specs.Creation.{Created}
 use Rattle.capi.proofs.creation.wz_create.Met as create
 use Rattle.possible.proofs.RunLaws.{has-result, with-emp, lent-mut, taken-back, good-left}
 use Rattle.possible.proofs.BlockRuns.{held, lent-numbers}
@@ -69,7 +68,7 @@ abbrev ks : Kepts (S .params)
 ks = (Exit.yes, (Exit.yes, (Exit.yes, (Exit.yes, (Exit.yes, (Exit.yes, tt))))))
 
 abbrev pub Says : List ℕ → Setup → ℕ → List ℕ → Type 0
-Says old s r new = Called old new r (creationCheck s) (freshWorker s)
+Says old s r new = Created old new r s
 
 abbrev spec : {M : Type 1} (𝓤 : URA M) (H : Heap 𝓤) (A : Atoms 𝓤) → Spec 𝓤 S
 spec 𝓤 H A κs a = record {

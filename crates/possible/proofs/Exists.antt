@@ -3,7 +3,7 @@ use mathlib.Core.Path.{_≡_, refl, sym, subst}
 use mathlib.Core.Bool.{true}
 use mathlib.Core.List.{List, _∷_, _++_}
 use mathlib.Core.Logic.{∥∥₁-map}
-use Prim.Native.Nat.{ℕ, zero, suc, _<_, _^_}
+use Prim.Native.Nat.{ℕ, zero, suc, _-_, _<_, _^_}
 use native.Mathlib.Omega.{arith}
 use lib.Ieee as ieee
 use lib.ListN.{replicate, length-replicate}
@@ -12,6 +12,7 @@ use prog.Model.{AllFit}
 use Rattle.ieee.specs.Round.{float}
 use Rattle.histories.specs.Events.{Each}
 use Rattle.histories.specs.Histories.{calls, Happened}
+use Rattle.board.specs.Layout.{boardSize}
 use Rattle.capi.specs.Memory.{listSize}
 use Rattle.turns.specs.Contracts.{Asked, Learnt}
 use Rattle.turns.specs.Demand.{History, Demand3, Claim}
@@ -70,9 +71,9 @@ fresh-lendable = (
       (one-more 63 (replicate 7 0 ++ (64 ∷ replicate 40 0 ++ (3 ∷ replicate 199 0))) (omega arith)
       (zeros-then 7 (64 ∷ replicate 40 0 ++ (3 ∷ replicate 199 0)) (one-more 64 (replicate 40 0 ++ (3 ∷ replicate 199 0)) (omega arith)
       (zeros-then 40 (3 ∷ replicate 199 0) (one-more 3 (replicate 199 0) (omega arith) (zeros-fit 199))))))))
-      (zeros-then 768 (0 ∷ 0 ∷ 1 ∷ 0 ∷ 2 ∷ 0 ∷ replicate 37370 0)
-      (one-more 0 (0 ∷ 1 ∷ 0 ∷ 2 ∷ 0 ∷ replicate 37370 0) (omega arith) (one-more 0 (1 ∷ 0 ∷ 2 ∷ 0 ∷ replicate 37370 0) (omega arith) (one-more 1 (0 ∷ 2 ∷ 0 ∷ replicate 37370 0) (omega arith)
-      (one-more 0 (2 ∷ 0 ∷ replicate 37370 0) (omega arith) (one-more 2 (0 ∷ replicate 37370 0) (omega arith) (one-more 0 (replicate 37370 0) (omega arith) (zeros-fit 37370)))))))),
+      (zeros-then (boardSize 3 - 12) (0 ∷ 0 ∷ 1 ∷ 0 ∷ 2 ∷ 0 ∷ replicate 6 0)
+      (one-more 0 (0 ∷ 1 ∷ 0 ∷ 2 ∷ 0 ∷ replicate 6 0) (omega arith) (one-more 0 (1 ∷ 0 ∷ 2 ∷ 0 ∷ replicate 6 0) (omega arith) (one-more 1 (0 ∷ 2 ∷ 0 ∷ replicate 6 0) (omega arith)
+      (one-more 0 (2 ∷ 0 ∷ replicate 6 0) (omega arith) (one-more 2 (0 ∷ replicate 6 0) (omega arith) (one-more 0 (replicate 6 0) (omega arith) (zeros-fit 6)))))))),
   subst (λ (k : ℕ). k < 2 ^ 63) (sym fresh-long) (omega arith),
 )
 

@@ -9,8 +9,9 @@ use Rattle.heads.specs.declared.link.State.the-variants.{Disconnected, Stopped 
 use Rattle.heads.specs.declared.progress.Phase.{Phase}
 use Rattle.heads.specs.declared.progress.Phase.the-variants.{Connect, Backoff, FailedTold, StaleTold, DisconnectedTold, Stopped}
 use Rattle.engine.specs.Engine.{backoffAt}
-use Rattle.board.specs.Board.{withQueue, queuedTags}
-use Rattle.polls.specs.Polls.{staledIn, changesIn}
+use Rattle.board.specs.Board.{withQueue}
+use Rattle.writes.specs.Failing.{queuedTags}
+use Rattle.readings.specs.Changes.{staledIn, changesIn}
 use Rattle.replies.specs.Reply as reply
 use Rattle.replies.specs.Worker.{Worker, Told, tell, asks, withBoard, phased, linked, stated}
 

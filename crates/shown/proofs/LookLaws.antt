@@ -11,11 +11,19 @@ use Rattle.panel.specs.Panel.{panelRoom, written}
 use Rattle.panel.proofs.WriteLaws.{length-panel, full-length}
 use Rattle.lent.specs.Lent.{cellBytes, overBytes, records, wroteAll}
 use Rattle.lent.proofs.LentLaws.{cells-fit, length-records}
-use Rattle.statistics.specs.Stats.{groupsOf}
+use Rattle.statistics.specs.Stats.{facts, groupsOf}
 use Rattle.statistics.proofs.StatLaws.{told-few}
-use Rattle.board.specs.Board.{Board, factsOf, rowCells}
-use Rattle.shown.specs.Looks.{listed, shortOf, groupCells, groupCount, panelBytes, panelCount}
+use Rattle.board.specs.Layout.{table, order, configured, groups, recorded, partsIn}
+use Rattle.board.specs.Board.{Board, boardFrom, boardIn}
+use Rattle.shown.specs.Looks.{listed, shortOf, groupCells, groupCount, panelBytes, panelCount, factsOf, rowCells}
 use Rattle.shown.specs.declared.lists.ListLook.{ListLook}
+
+-- ---- what statistics go by, part by part of the board
+
+pub facts-read : (bs t o f g r : List ℕ) → t ≡ partsIn bs table → o ≡ partsIn bs order → f ≡ partsIn bs configured → g ≡ partsIn bs groups → r ≡ partsIn bs recorded
+    → facts t o f g r ≡ factsOf (boardIn bs)
+unfolding boardIn boardFrom
+facts-read bs t o f g r e1 e2 e3 e4 e5 = rw (e1, e2, e3, e4, e5) refl
 
 -- ---- check 43
 

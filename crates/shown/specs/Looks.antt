@@ -1,6 +1,6 @@
 -- What looks answer, by the head and the board, and what they leave in a lent list.
 use mathlib.Core.Bool.{cond}
-use mathlib.Core.List.{List}
+use mathlib.Core.List.{List, [], _∷_}
 use Prim.Native.Nat.{ℕ, _+_, _/_}
 use lib.Dec.{eqb, ltb, leb}
 use lib.Ieee.{binary64, ofBits}
@@ -10,17 +10,16 @@ use Rattle.words.specs.Entry.{heldWordsOf}
 use Rattle.table.specs.declared.tag.Tag.{Tag}
 use Rattle.table.specs.declared.tag.Description.{Description}
 use Rattle.table.specs.declared.tag.Description.the-variants.{Unknown, Nothing, Is}
-use Rattle.tiers.specs.Tiers.{tagAt}
 use Rattle.panel.specs.Panel.{panelOf, written, writtenLength}
 use Rattle.lent.specs.Lent.{cellBytes, wroteAll}
 use Rattle.statistics.specs.Counts.{tierCount}
-use Rattle.statistics.specs.Stats.{groupStats, groupsTold}
+use Rattle.statistics.specs.Stats.{Facts, groupStats, groupsTold}
 use Rattle.versions.specs.declared.version.Version.{Version}
 use Rattle.versions.specs.declared.version.Version.the-variants.{Null as NoVersion, Is as AVersion}
 use Rattle.heads.specs.Link.{stateNumber}
 use Rattle.heads.specs.declared.link.Link.{Link}
 use Rattle.heads.specs.declared.stats.Stats.{Stats}
-use Rattle.board.specs.Board.{Board, factsOf}
+use Rattle.board.specs.Board.{Board, tagAt}
 use Rattle.shown.specs.declared.head.StateLook.{StateLook}
 use Rattle.shown.specs.declared.head.StatsLook.{StatsLook}
 use Rattle.shown.specs.declared.counts.CountsLook.{CountsLook}
@@ -86,6 +85,14 @@ shortOf places asked = cond (ltb places asked) 43 0
 -- what the lent list holds: the cells where nothing refuses
 abbrev pub leftIn : ℕ → List ℕ → List ℕ → List ℕ
 leftIn code out cells = cond (eqb code 0) (wroteAll out (cellBytes cells)) out
+
+-- Rule 10: what the group statistics go by
+abbrev pub factsOf : Board → Facts
+factsOf B = record { tags = B .table .tags; order = B .table .order; configured = B .configured; groups = B .groups .groups; recorded = B .groups .recorded }
+
+-- a tag of the table and its tier
+abbrev pub rowCells : Board → ℕ → List ℕ
+rowCells B k = k ∷ tagAt (B .table) k .tier ∷ []
 
 -- Rule 10: group statistics, five cells each; 16 places are asked for
 abbrev pub groupCells : Board → List ℕ

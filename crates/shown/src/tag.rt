@@ -1,9 +1,7 @@
 // A tag.
 ghost use mathlib.Core.Path.{_≡_};
-ghost use lib.ListN.{length};
-ghost use Rattle.tiers.specs.Tiers.{tagAt};
-ghost use Rattle.board.specs.Regions.{boardSize};
-ghost use Rattle.board.specs.Board.{boardIn};
+ghost use Rattle.board.specs.Layout.{IsBoard};
+ghost use Rattle.board.specs.Board.{boardIn, tagAt};
 ghost use Rattle.shown.specs.Looks.{descriptionCell, tagOf, noLook, tagFound};
 use table::tag::Description;
 use words::entry::held_words;
@@ -36,12 +34,12 @@ fn description_cell(d: Description) -> u64
 }
 
 fn tag_of(board: &[u8], k: usize) -> TagLook
-    requires { ⌜ length (now board) ≡ boardSize ⌝ }
+    requires { ⌜ IsBoard (now board) ⌝ }
     ensures { λ r. ⌜ r ≡ tagOf (tagAt (boardIn (now (board .entry)) .table) k) ⌝ }
 {
-    let tier = board::looks::tier_of(board, k);
-    let cached = board::looks::cached_of(board, k);
-    let d = board::looks::description_of(board, k);
+    let tier = board::tag::tier_of(board, k);
+    let cached = board::tag::cached_of(board, k);
+    let d = board::tag::description_of(board, k);
     let w = held_words(cached);
     let description = description_cell(d);
     TagLook {
@@ -79,7 +77,7 @@ pub fn no_look(code: u64) -> TagLook
 
 // Check 23, then the tag: its tier, its cached entry and its description. `count` is how many tags there are.
 pub fn tag(board: &[u8], count: u16, tag: u32) -> TagLook
-    requires { ⌜ length (now board) ≡ boardSize ⌝ }
+    requires { ⌜ IsBoard (now board) ⌝ }
     ensures { λ r. ⌜ r ≡ tagFound (boardIn (now (board .entry))) count tag ⌝ }
 {
     if count as u32 <= tag {

@@ -19,12 +19,11 @@ use Rattle.readings.specs.Listed.{Applying, applyNext, applyFrom}
 use Rattle.descriptions.specs.Descriptions.{knownFrom}
 use Rattle.versions.specs.Versions.{tagTaken, takenAt, eachAt, tableTaken, versionTable, isChanged, takesSettings}
 use Rattle.versions.specs.declared.version.Version.{Version}
-use Rattle.tiers.specs.Tiers.{Table}
 use Rattle.rounds.specs.declared.tick.Cycle.{Cycle}
 use Rattle.turns.proofs.TierLaws.{tiers, set-kept, tierOf, placeOf, places, places-tiers, places-settings}
 use Rattle.turns.proofs.TickLaws.{Rated}
 use Rattle.turns.proofs.RateLaws.{rated-same}
-use Rattle.board.specs.Board.{withRecords}
+use Rattle.board.specs.Board.{withRecords, Table}
 use Rattle.replies.specs.Worker.{Worker, Told, tell}
 use Rattle.replies.specs.declared.reply.Reply.{Reply}
 

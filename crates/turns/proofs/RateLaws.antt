@@ -16,7 +16,8 @@ use Rattle.table.specs.declared.tag.Settings.{Settings}
 use Rattle.table.specs.declared.tag.Tag.{Tag}
 use Rattle.settings.specs.Records.{recordsIn, every}
 use Rattle.settings.specs.Settings.{settingFrom, settingIn, settingOk, settingsOk, rateOk, maxGroups}
-use Rattle.tiers.specs.Tiers.{Table, tagAt, tagSet, putTable, graceUntil, enterGrace, setTier}
+use Rattle.tiers.specs.Tiers.{tagSet, putTable, graceUntil, enterGrace, setTier}
+use Rattle.board.specs.Board.{Table, tagAt}
 use Rattle.panel.specs.Panel.{loaded}
 use Rattle.versions.specs.Versions.{tagTaken, takenAt, eachAt, tableTaken, versionTable, isChanged, takesSettings}
 use Rattle.versions.specs.declared.version.Version.{Version}

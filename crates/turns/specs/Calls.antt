@@ -8,14 +8,13 @@ use lib.IntN.{ℤ}
 use lib.ListN.{length}
 use Rattle.names.specs.Directory.{maxNames}
 use Rattle.words.specs.Value.{valueFrom}
-use Rattle.tiers.specs.Tiers.{tagAt}
 use Rattle.lent.specs.Lent.{records, wroteAll}
 use Rattle.panel.specs.Panel.{panelRoom}
-use Rattle.board.specs.Board.{rowCells}
+use Rattle.board.specs.Board.{tagAt}
 use Rattle.replies.specs.Worker.{Worker, Told, at}
 use Rattle.replies.specs.declared.reply.Reply.{Reply}
 use Rattle.worker.specs.Answers.{step}
-use Rattle.shown.specs.Looks.{stateOf, statsOf, countsOf, listed, leftIn, panelLeft, tagOf, noLook}
+use Rattle.shown.specs.Looks.{stateOf, statsOf, countsOf, listed, leftIn, panelLeft, tagOf, noLook, rowCells}
 use Rattle.shown.specs.declared.head.StateLook.{StateLook}
 use Rattle.shown.specs.declared.head.StatsLook.{StatsLook}
 use Rattle.shown.specs.declared.counts.CountsLook.{CountsLook}

@@ -16,8 +16,8 @@ use replies::reply::Reply;
 use rounds::tick::Options;
 use worker::checks::Answer;
 
-// The bytes of an engine.
-const MEMORY: usize = 38400;
+// The bytes of an engine of four names.
+const MEMORY: usize = 4206;
 
 // Four cells for each of four tags.
 const SETTINGS: usize = 128;

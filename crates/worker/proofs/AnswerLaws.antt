@@ -7,7 +7,7 @@ use lib.Dec.{eqb, eqb·suc-zero}
 use lib.ListN.{length}
 use Rattle.lent.specs.Lent.{cellBytes, wroteAll, records}
 use Rattle.board.specs.Board.{Board, boardIn}
-use Rattle.polls.specs.Polls.{changesIn}
+use Rattle.readings.specs.Changes.{changesIn}
 use Rattle.heads.specs.declared.progress.Phase.{Phase}
 use Rattle.engine.specs.declared.Engine.{Engine}
 use Rattle.replies.specs.declared.reply.Reply.{Reply}

@@ -9,10 +9,10 @@ use lib.ListN.{length, take}
 use Rattle.values.specs.declared.value.Value.the-variants.{Null}
 use Rattle.rounds.specs.Round.{Round}
 use Rattle.versions.specs.Versions.{isReloaded}
-use Rattle.writes.specs.Queue.{popped}
-use Rattle.writes.specs.ReadBack.{readBackTags, readBackFirst}
-use Rattle.writes.specs.declared.queue.Popped.{Popped}
-use Rattle.writes.specs.declared.queue.Popped.the-variants.{Nothing, Is}
+use Rattle.queue.specs.Queue.{popped}
+use Rattle.writes.specs.ReadBack.{readBackTags, readBackFirst, keptBack}
+use Rattle.queue.specs.declared.Popped.{Popped}
+use Rattle.queue.specs.declared.Popped.the-variants.{Nothing, Is}
 use Rattle.heads.specs.Link.{isState, withAttempt}
 use Rattle.heads.specs.Stats.{readStats, tailStats, reconnected, reloaded}
 use Rattle.heads.specs.declared.link.State.the-variants.{Connecting, Connected, Disconnected}
@@ -22,8 +22,8 @@ use Rattle.heads.specs.declared.progress.Phase.{Phase}
 use Rattle.heads.specs.declared.progress.Phase.the-variants.{Begin, Connect, OpenVersion, Version, Read, Describe, Write, ReadBack, Wait, Backoff, OpenFailedTold, OpenMetaTold, ConnectedTold, MetaTold, ValuesTold, InfoTold, RefusedTold, LostTold, OutcomeTold, BackTold, FailedTold, StaleTold, DisconnectedTold, ConnectingTold, Stopped}
 use Rattle.board.specs.Board.{withAsked}
 use Rattle.lent.specs.Lent.{cellBytes, tagBytes}
-use Rattle.polls.specs.Polls.{appliedTo, staledIn, changesIn}
-use Rattle.talks.specs.Talks.{keptBack, describing}
+use Rattle.readings.specs.Changes.{appliedTo, staledIn, changesIn}
+use Rattle.descriptions.specs.Descriptions.{describing}
 use Rattle.replies.specs.Reply as reply
 use Rattle.replies.specs.Worker.{Worker, At, Told, tell, asks, withBoard, phased, linked, stated, tallied, goesOn}
 use Rattle.replies.specs.Losing.{isEmpty, failing, ended, backingOff, disconnected, staling, down, top}

@@ -17,7 +17,7 @@ use Rattle.versions.specs.Versions.{isReloaded, versionTable}
 use Rattle.versions.specs.declared.version.Version.{Version as Number}
 use Rattle.versions.specs.declared.version.Version.the-variants.{Null as Unknown, Is as Known}
 use Rattle.descriptions.specs.Descriptions.{learnt, learntNone}
-use Rattle.writes.specs.ReadBack.{readBackTags, readBackFirst}
+use Rattle.writes.specs.ReadBack.{readBackTags, readBackFirst, keptBack}
 use Rattle.heads.specs.Link.{isState, withAttempt, withVersion}
 use Rattle.heads.specs.Stats.{reconnected, reloaded}
 use Rattle.heads.specs.declared.link.State.the-variants.{Connecting, Connected}
@@ -26,8 +26,7 @@ use Rattle.heads.specs.declared.progress.Phase.{Phase}
 use Rattle.heads.specs.declared.progress.Phase.the-variants.{Begin, Connect, OpenVersion, Version, Read, Describe, Write, ReadBack, Wait, Backoff, OpenFailedTold, OpenMetaTold, ConnectedTold, MetaTold, ValuesTold, InfoTold, RefusedTold, LostTold, OutcomeTold, BackTold, FailedTold, StaleTold, DisconnectedTold, ConnectingTold, Stopped}
 use Rattle.engine.specs.Engine.{withClock}
 use Rattle.board.specs.Board.{withRecords, withAsked}
-use Rattle.polls.specs.Polls.{appliedTo, changesIn}
-use Rattle.talks.specs.Talks.{keptBack}
+use Rattle.readings.specs.Changes.{appliedTo, changesIn}
 use Rattle.replies.specs.declared.reply.Said.{Said}
 use Rattle.replies.specs.Reply as reply
 use Rattle.replies.specs.Worker.{Worker, At, Told, Done, tell, asks, worker, withBoard, phased, linked, stated, tallied}

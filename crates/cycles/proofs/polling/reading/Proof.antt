@@ -8,7 +8,7 @@ use mir.Val.{SFits}
 use mir.Syntax.{w64}
 use mir.Facts.{toZ-ofZ}
 use Rattle.board.specs.Board.{Board, boardIn}
-use Rattle.talks.specs.Talks.{describing}
+use Rattle.descriptions.specs.Descriptions.{describing}
 use Prim.Native.Nat.{ℕ}
 use lib.ListN.{length}
 use Rattle.lent.specs.Lent.{tagBytes, wroteAll}
@@ -64,8 +64,8 @@ returns c =
     let next : c .before .before .before .before .before .before .before .before .before .before .before .before .before .before .with-stats .result ≡ withStats (a .e) stats =
     c .before .before .before .before .before .before .before .before .before .before .before .before .before .before .with-stats .ensures ∙ ap (withStats (a .e)) (c .before .before .before .before .before .before .before .before .before .before .before .before .before .before .before .read-stats .ensures ∙ ap (readStats (a .e .stats)) (c .before .before .before .before .before .before .before .before .before .before .before .before .before .before .before .before .asked-count .ensures)) in
     let left : worker (c .before .before .before .before .before .before .before .before .before .before .before .before .before .before .with-stats .result) (boardIn (d .last .0)) ≡ worker (withStats (a .e) stats) D =
-    ap (λ (e : Engine). worker e (boardIn (d .last .0))) next ∙ ap (worker (withStats (a .e) stats)) (d .ensures) in
-    let asked : boardIn (d .last .0) .asked ≡ D .asked = ap (λ (X : Board). X .asked) (d .ensures) in
+    ap (λ (e : Engine). worker e (boardIn (d .last .0))) next ∙ ap (worker (withStats (a .e) stats)) (d .ensures .board) in
+    let asked : boardIn (d .last .0) .asked ≡ D .asked = ap (λ (X : Board). X .asked) (d .ensures .board) in
     let count : c .before .before .before .before .before .before .before .before .asked-count2 .result ≡ length (D .asked) = c .before .before .before .before .before .before .before .before .asked-count2 .ensures ∙ ap (length {A = ℕ}) asked in
     let after = worker (withStats (a .e) stats) D in
     let told = tell (phased after Describe) (reply.describe (length (D .asked))) (tagBytes (D .asked)) in
@@ -105,8 +105,8 @@ returns-2 c =
     let next : c .before .before .before .before .before .before .before .before .before .before .before .before .before .before .with-stats .result ≡ withStats (a .e) stats =
     c .before .before .before .before .before .before .before .before .before .before .before .before .before .before .with-stats .ensures ∙ ap (withStats (a .e)) (c .before .before .before .before .before .before .before .before .before .before .before .before .before .before .before .read-stats .ensures ∙ ap (readStats (a .e .stats)) (c .before .before .before .before .before .before .before .before .before .before .before .before .before .before .before .before .asked-count .ensures)) in
     let left : worker (c .before .before .before .before .before .before .before .before .before .before .before .before .before .before .with-stats .result) (boardIn (d .last .0)) ≡ worker (withStats (a .e) stats) D =
-    ap (λ (e : Engine). worker e (boardIn (d .last .0))) next ∙ ap (worker (withStats (a .e) stats)) (d .ensures) in
-    let asked : boardIn (d .last .0) .asked ≡ D .asked = ap (λ (X : Board). X .asked) (d .ensures) in
+    ap (λ (e : Engine). worker e (boardIn (d .last .0))) next ∙ ap (worker (withStats (a .e) stats)) (d .ensures .board) in
+    let asked : boardIn (d .last .0) .asked ≡ D .asked = ap (λ (X : Board). X .asked) (d .ensures .board) in
     let count : c .before .before .before .before .before .before .before .before .asked-count2 .result ≡ length (D .asked) = c .before .before .before .before .before .before .before .before .asked-count2 .ensures ∙ ap (length {A = ℕ}) asked in
     let after = worker (withStats (a .e) stats) D in
     let told = tell (phased after Describe) (reply.describe (length (D .asked))) (tagBytes (D .asked)) in
@@ -115,7 +115,7 @@ returns-2 c =
     done-is told (reading W t) (c .phased .result) (d .last .0) (now (a .out)) (p .last .1 .0) (sym (ap (λ (b : Bool). cond b (checking after t) told) test))
     (record {
       head-is = ap (λ (s : Said). s .head) (c .phased .ensures) ∙ ap (λ (e : Engine). saidIn e Describe (c .before .listed .result) .head) next;
-      board-is = d .ensures;
+      board-is = d .ensures .board;
       reply-is = ap (λ (s : Said). s .reply) (c .phased .ensures) ∙ (c .before .listed .ensures ∙ ap reply.describe (p .ensures .0 ∙ ap (length {A = ℕ}) asked));
       out-is = p .ensures .1 ∙ ap (λ (l : List ℕ). wroteAll (now (a .out)) (tagBytes l)) asked;
       silent = λ h. absurd (false≢true h);

@@ -7,7 +7,7 @@ use Prim.Native.Nat.{ℕ}
 use denote.Ref.{now}
 use lib.ListN.{length}
 use Rattle.board.specs.Board.{boardIn}
-use Rattle.polls.specs.Polls.{staledIn, changesIn}
+use Rattle.readings.specs.Changes.{staledIn, changesIn}
 use Rattle.heads.specs.declared.progress.Phase.the-variants.{StaleTold}
 use Rattle.replies.specs.Reply as reply
 use Rattle.replies.specs.Worker.{Told, worker, tell, phased}
@@ -41,7 +41,7 @@ returns c =
     let none = c .disconnected .ensures (C .board) in
     let wrote = ap (λ (l : List ℕ). wroteAll (now (a .out)) (cellBytes (changesIn (C .board) l))) (no-items {A = ℕ} (C .changes) (sym (m .ensures .count-is) ∙ c .before .if1 .taken)) in
     done-is (disconnected next) (staling (worker (a .e) (boardIn (now (a .board))))) _ _ _ _ (simp test)
-    (quietly-done (disconnected next) (c .disconnected .result) (C .board) (m .last .0) (now (a .out)) (m .last .1 .0) none (m .ensures .board-is) (m .ensures .out-is ∙ (wrote ∙ wrote-nothing (now (a .out)))))
+    (quietly-done (disconnected next) (c .disconnected .result) (C .board) (m .last .0) (now (a .out)) (m .last .1 .0) none (m .ensures .holds .board) (m .ensures .out-is ∙ (wrote ∙ wrote-nothing (now (a .out)))))
 
 listed-requires : tie.Need-listed-requires
 listed-requires c κs = search needs
@@ -67,7 +67,7 @@ returns-2 c =
     done-is T (staling (worker (a .e) (boardIn (now (a .board))))) _ _ _ _ (simp test)
     (record {
       head-is = simp (c .phased .ensures);
-      board-is = m .ensures .board-is;
+      board-is = m .ensures .holds .board;
       reply-is = simp (c .phased .ensures, c .before .listed .ensures, m .ensures .count-is);
       out-is = m .ensures .out-is;
       silent = λ h. absurd (false≢true h);

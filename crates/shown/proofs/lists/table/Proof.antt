@@ -6,8 +6,8 @@ use denote.Ref.{now}
 use lib.ListN.{length}
 use Rattle.names.specs.Directory.{maxNames}
 use Rattle.lent.specs.Lent.{cellBytes, records, wroteAll}
-use Rattle.board.specs.Board.{boardIn, rowCells}
-use Rattle.shown.specs.Looks.{listed, shortOf, fitting, tableCount}
+use Rattle.board.specs.Board.{boardIn}
+use Rattle.shown.specs.Looks.{listed, shortOf, fitting, tableCount, rowCells}
 use Rattle.shown.proofs.LookLaws.{short, enough, refused, given}
 use borrow.Author.Needs.{needs}
 use Rattle.shown.proofs.lists.table.Statement.{statement}
