@@ -14,7 +14,7 @@ program=$(CAPI=$archive "$here/build.sh" "${1:-}")
 tmp=$(mktemp -d)
 trap 'rm -rf "$tmp"' EXIT
 
-set -- refusals board backoff again small:1:3:50 mid:1:2:40 full:2:1:40 full:6:1:40 calm:1:1:80 stormy:1:2:60 \
+set -- refusals board backoff again left small:1:3:50 mid:1:2:40 full:2:1:40 full:6:1:40 calm:1:1:80 stormy:1:2:60 \
     edge:1:3:50 groups:1:2:50 aimed:1:3:50
 for f in "$here"/findings/*.txt; do
     # outcomes told one by one, and reads cut into runs (change request N1), are not the functions' form

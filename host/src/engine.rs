@@ -2,17 +2,28 @@
 
 use crate::ffi;
 use crate::refusal::Refusal;
-use crate::values::{Entry, Error, Group, Options, Setting, Value, put, records, result_cells};
+use crate::values::{Entry, Error, Group, Options, Setting, Value, changes, put, records, result_cells, tags};
 use std::fmt;
 
+/// The number of the interface that this crate is written for.
+pub const INTERFACE: u64 = 2;
 /// Names in a directory, at most.
 pub const TAGS: usize = 120;
 /// Groups, at most.
 pub const GROUPS: usize = 16;
-/// Bytes of an engine.
-pub const MEMORY: usize = 38400;
-const LIST: usize = TAGS * 56;
+const LIST: usize = TAGS * 72;
 const PANEL: usize = 1 + 2 * TAGS;
+
+/// The number of the archive's interface. It is [`INTERFACE`], or this crate was linked with another archive than it is
+/// written for.
+pub fn interface() -> u64 {
+    ffi::interface()
+}
+
+/// Bytes of an engine over so many names: 3,142 and 266 for each. 0 for a number of names that no directory has.
+pub fn memory_size(count: usize) -> usize {
+    u32::try_from(count).map_or(0, |count| ffi::memory_size(count) as usize)
+}
 
 /// What the host answers to a request, or to an event.
 #[derive(Clone, Copy, Debug, PartialEq)]
@@ -84,6 +95,7 @@ pub enum Event {
 
 /// How a write ended.
 #[derive(Clone, Copy, Debug, PartialEq)]
+#[non_exhaustive]
 pub enum Outcome {
     /// It went through; the value read back.
     Written(Value),
@@ -185,9 +197,8 @@ impl Engine {
         let (mut list, mut configured) = (Vec::new(), Vec::new());
         put(&mut list, settings.iter().map(|s| s.cells()));
         put(&mut configured, groups.iter().map(|g| [u64::from(g.number), g.rate.into()]));
-        let mut memory = vec![0; MEMORY].into_boxed_slice();
-        let options = [options.cycle, options.period, options.grace];
-        Refusal::check(ffi::create(&mut memory, &joined, &ends, options, &list, &configured).into())?;
+        let mut memory = vec![0; memory_size(names.len())].into_boxed_slice();
+        Refusal::check(ffi::create(&mut memory, &joined, &ends, options.handed(), &list, &configured).into())?;
         Ok(Engine { memory, list })
     }
 
@@ -292,7 +303,7 @@ impl Engine {
         Refusal::check(look.code)?;
         Ok(Tag {
             tier: look.tier as u32,
-            entry: Entry::of([look.held, look.kind, look.word, look.t, look.error, look.message]),
+            entry: Entry::of(look.entry),
             description: match look.description {
                 0 => None,
                 1 => Some(None),
@@ -301,7 +312,7 @@ impl Engine {
         })
     }
 
-    /// The engine's bytes. What they hold is its own affair.
+    /// The engine's bytes, as many as [`memory_size`] says. What they hold is its own affair.
     pub fn memory(&self) -> &[u8] {
         &self.memory
     }
@@ -342,18 +353,17 @@ impl Answer<'_> {
 
 impl Reply {
     fn of(reply: &ffi::Reply, out: &[u8]) -> Reply {
-        let tags = || records(out, reply.count).map(|[tag]| tag as u32).collect();
+        let tags = || tags(out, reply.count);
         let tag = reply.tag as u32;
-        let value = || Value::of(reply.value, reply.word);
         let request = match reply.kind {
             1 => Request::Connect,
             2 => Request::Version,
             3 => Request::Read(tags()),
-            4 => Request::Write(tag, value()),
+            4 => Request::Write(tag, Value::of(reply.value)),
             5 => Request::ReadBack(tags()),
             6 => Request::Describe(tags()),
             7 => Request::Wait(reply.seconds),
-            8 => return Reply::Event(Event::Values(changes(out, reply.count))),
+            8 => return Reply::Event(Event::Values(told(out, reply.count))),
             9 => return Reply::Event(Event::Status(State::of(reply.what))),
             10 => return Reply::Event(Event::Meta),
             11 => return Reply::Event(Event::Info(tags())),
@@ -366,15 +376,14 @@ impl Reply {
     }
 }
 
-fn changes(out: &[u8], count: u64) -> Vec<(u32, Entry)> {
-    let change = |[tag, entry @ ..]: [u64; 7]| (tag as u32, Entry::of(entry).expect("a change has an entry"));
-    records(out, count).map(change).collect()
+fn told(out: &[u8], count: u64) -> Vec<(u32, Entry)> {
+    changes(out, count).map(|(tag, entry)| (tag, Entry::of(entry).expect("a change has an entry"))).collect()
 }
 
 impl Outcome {
     fn of(reply: &ffi::Reply) -> Outcome {
-        match (reply.what, Error::of(reply.error, reply.message)) {
-            (0, _) => Outcome::Written(Value::of(reply.value, reply.word)),
+        match (reply.what, Error::of(reply.error)) {
+            (0, _) => Outcome::Written(Value::of(reply.value)),
             (1, Some(error)) => Outcome::Refused(error),
             _ => Outcome::Lost,
         }

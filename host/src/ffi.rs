@@ -1,6 +1,47 @@
 //! The exported functions as they are, on slices; include/wordzike.h says what each does. The only file with `unsafe`:
 //! the functions take every content and every length, so that slices are all that safety needs.
 
+/// `wz_value`.
+#[repr(C)]
+#[derive(Clone, Copy, Debug, PartialEq)]
+#[allow(missing_docs)]
+pub struct Value {
+    pub kind: u64,
+    pub word: u64,
+}
+
+/// `wz_error`.
+#[repr(C)]
+#[derive(Clone, Copy, Debug, PartialEq)]
+#[allow(missing_docs)]
+pub struct Error {
+    pub kind: u64,
+    pub message: u64,
+}
+
+/// `wz_entry`.
+#[repr(C)]
+#[derive(Clone, Copy, Debug, PartialEq)]
+#[allow(missing_docs)]
+pub struct Entry {
+    pub quality: u64,
+    pub value: Value,
+    pub t: i64,
+    pub error: Error,
+    pub has_g: u64,
+    pub g: i64,
+}
+
+/// `wz_options`.
+#[repr(C)]
+#[derive(Clone, Copy, Debug, PartialEq)]
+#[allow(missing_docs)]
+pub struct Options {
+    pub cycle: f64,
+    pub period: f64,
+    pub grace: f64,
+}
+
 /// What a step gives: `wz_reply`.
 #[repr(C)]
 #[derive(Clone, Copy, Debug, PartialEq)]
@@ -11,10 +52,8 @@ pub struct Reply {
     pub count: u64,
     pub tag: u64,
     pub what: u64,
-    pub value: u64,
-    pub word: u64,
-    pub error: u64,
-    pub message: u64,
+    pub value: Value,
+    pub error: Error,
     pub seconds: f64,
 }
 
@@ -72,16 +111,12 @@ pub struct ListLook {
 pub struct TagLook {
     pub code: u64,
     pub tier: u64,
-    pub held: u64,
-    pub kind: u64,
-    pub word: u64,
-    pub t: u64,
-    pub error: u64,
-    pub message: u64,
+    pub entry: Entry,
     pub description: u64,
 }
 
 unsafe extern "C" {
+    fn wz_interface() -> u64;
     fn wz_create(
         mem: *mut u8,
         mem_len: usize,
@@ -89,9 +124,7 @@ unsafe extern "C" {
         names_len: usize,
         ends: *const u32,
         ends_len: usize,
-        cycle: f64,
-        period: f64,
-        grace: f64,
+        options: Options,
         settings: *const u8,
         settings_len: usize,
         groups: *const u8,
@@ -121,11 +154,20 @@ unsafe extern "C" {
     fn wz_table(mem: *const u8, mem_len: usize, out: *mut u8, out_len: usize) -> ListLook;
     fn wz_panel(mem: *const u8, mem_len: usize, out: *mut u8, out_len: usize) -> ListLook;
     fn wz_tag(mem: *const u8, mem_len: usize, tag: u32) -> TagLook;
+    fn wz_memory_size(count: u32) -> u64;
+    fn wz_list_size(count: u32) -> u64;
+    fn wz_group_stats_size() -> u64;
+    fn wz_table_size(count: u32) -> u64;
+    fn wz_panel_size() -> u64;
 }
 
-/// `wz_create`; the options are cycle, period and grace.
-pub fn create(mem: &mut [u8], names: &[u8], ends: &[u32], options: [f64; 3], settings: &[u8], groups: &[u8]) -> u32 {
-    let [cycle, period, grace] = options;
+/// `wz_interface`.
+pub fn interface() -> u64 {
+    unsafe { wz_interface() }
+}
+
+/// `wz_create`.
+pub fn create(mem: &mut [u8], names: &[u8], ends: &[u32], options: Options, settings: &[u8], groups: &[u8]) -> u32 {
     unsafe {
         wz_create(
             mem.as_mut_ptr(),
@@ -134,9 +176,7 @@ pub fn create(mem: &mut [u8], names: &[u8], ends: &[u32], options: [f64; 3], set
             names.len(),
             ends.as_ptr(),
             ends.len(),
-            cycle,
-            period,
-            grace,
+            options,
             settings.as_ptr(),
             settings.len(),
             groups.as_ptr(),
@@ -218,4 +258,29 @@ pub fn panel(mem: &[u8], out: &mut [u8]) -> ListLook {
 /// `wz_tag`.
 pub fn tag(mem: &[u8], tag: u32) -> TagLook {
     unsafe { wz_tag(mem.as_ptr(), mem.len(), tag) }
+}
+
+/// `wz_memory_size`.
+pub fn memory_size(count: u32) -> u64 {
+    unsafe { wz_memory_size(count) }
+}
+
+/// `wz_list_size`.
+pub fn list_size(count: u32) -> u64 {
+    unsafe { wz_list_size(count) }
+}
+
+/// `wz_group_stats_size`.
+pub fn group_stats_size() -> u64 {
+    unsafe { wz_group_stats_size() }
+}
+
+/// `wz_table_size`.
+pub fn table_size(count: u32) -> u64 {
+    unsafe { wz_table_size(count) }
+}
+
+/// `wz_panel_size`.
+pub fn panel_size() -> u64 {
+    unsafe { wz_panel_size() }
 }

@@ -60,6 +60,9 @@ pub mod ffi;
 mod refusal;
 mod values;
 
-pub use engine::{Answer, Engine, Event, GROUPS, GroupStats, MEMORY, Outcome, Reply, Request, State, Stats, TAGS, Tag};
+pub use engine::{
+    Answer, Engine, Event, GROUPS, GroupStats, INTERFACE, Outcome, Reply, Request, State, Stats, TAGS, Tag, interface,
+    memory_size,
+};
 pub use refusal::Refusal;
 pub use values::{Entry, Error, ErrorKind, Group, Options, Quality, Setting, Value};

@@ -1,8 +1,11 @@
 //! Values, errors, entries and settings, and the cells that stand for them.
 
+use crate::ffi;
+
 /// A tag's value.
 #[derive(Clone, Copy, Debug, PartialEq)]
 #[allow(missing_docs)]
+#[non_exhaustive]
 pub enum Value {
     Null,
     Bool(bool),
@@ -32,6 +35,7 @@ pub struct Error {
 
 /// How far an entry's value can be trusted.
 #[derive(Clone, Copy, Debug, PartialEq, Eq, Hash)]
+#[non_exhaustive]
 pub enum Quality {
     /// Read.
     Good,
@@ -97,7 +101,7 @@ impl Value {
         }
     }
 
-    pub(crate) fn of(kind: u64, word: u64) -> Value {
+    pub(crate) fn of(ffi::Value { kind, word }: ffi::Value) -> Value {
         match kind {
             1 => Value::Bool(word != 0),
             2 => Value::Int(word as i64),
@@ -117,7 +121,7 @@ impl Error {
         [kind, self.message.into()]
     }
 
-    pub(crate) fn of(kind: u64, message: u64) -> Option<Error> {
+    pub(crate) fn of(ffi::Error { kind, message }: ffi::Error) -> Option<Error> {
         let kind = match kind {
             0 => return None,
             1 => ErrorKind::NotFound,
@@ -129,16 +133,21 @@ impl Error {
 }
 
 impl Entry {
-    pub(crate) fn of(cells: [u64; 6]) -> Option<Entry> {
-        let [held, kind, word, time, error, message] = cells;
-        let quality = match held {
+    pub(crate) fn of(entry: ffi::Entry) -> Option<Entry> {
+        let quality = match entry.quality {
             0 => return None,
             2 => Quality::Bad,
             3 => Quality::Missing,
             4 => Quality::Stale,
             _ => Quality::Good,
         };
-        Some(Entry { value: Value::of(kind, word), quality, time: time as i64, error: Error::of(error, message) })
+        Some(Entry { value: Value::of(entry.value), quality, time: entry.t, error: Error::of(entry.error) })
+    }
+}
+
+impl Options {
+    pub(crate) fn handed(self) -> ffi::Options {
+        ffi::Options { cycle: self.cycle, period: self.period, grace: self.grace }
     }
 }
 
@@ -162,6 +171,19 @@ pub(crate) fn result_cells(result: Result<Value, Error>) -> [u64; 4] {
 pub(crate) fn put<const N: usize>(list: &mut Vec<u8>, records: impl IntoIterator<Item = [u64; N]>) {
     list.clear();
     list.extend(records.into_iter().flatten().flat_map(u64::to_le_bytes));
+}
+
+/// The first tags of a list.
+pub(crate) fn tags(list: &[u8], count: u64) -> Vec<u32> {
+    list.chunks_exact(2).take(count as usize).map(|tag| u16::from_le_bytes([tag[0], tag[1]]).into()).collect()
+}
+
+/// The first changes of a list: tag and entry.
+pub(crate) fn changes(list: &[u8], count: u64) -> impl Iterator<Item = (u32, ffi::Entry)> {
+    records(list, count).map(|[tag, quality, kind, word, t, error, message, has_g, g]| {
+        let (value, error) = (ffi::Value { kind, word }, ffi::Error { kind: error, message });
+        (tag as u32, ffi::Entry { quality, value, t: t as i64, error, has_g, g: g as i64 })
+    })
 }
 
 /// The first records of a list.

@@ -16,6 +16,41 @@ fn reading() -> Engine {
     engine
 }
 
+/// The number that the header has behind `#define NAME`.
+fn defined(name: &str) -> u64 {
+    let header = include_str!("../../include/wordzike.h");
+    let numbers =
+        header.lines().filter_map(|line| line.strip_prefix("#define ")?.strip_prefix(name)?.strip_prefix(' '));
+    let mut numbers = numbers.filter_map(|rest| rest.split(' ').next()?.parse().ok());
+    numbers.next().unwrap_or_else(|| panic!("the header has no number {name}"))
+}
+
+#[test]
+fn the_interface_is_the_archives_and_the_headers() {
+    assert_eq!(interface(), INTERFACE);
+    assert_eq!(defined("WZ_INTERFACE"), INTERFACE);
+    assert_eq!(["WZ_TAGS", "WZ_GROUPS"].map(defined), [TAGS, GROUPS].map(|n| n as u64));
+}
+
+#[test]
+fn an_engine_has_memory_by_the_number_of_its_names() {
+    assert_eq!([1, 10, 60, TAGS].map(memory_size), [3408, 5802, 19102, 35062]);
+    assert_eq!([0, TAGS + 1, 1 << 32, (1 << 32) + 1, usize::MAX].map(memory_size), [0; 5]);
+    let names: Vec<String> = (0..=TAGS).map(|k| format!("T{k:03}")).collect();
+    let engine = |n: usize| Engine::new(&names[..n], OPTIONS, &vec![Setting::default(); n], &[]);
+    for n in 1..=TAGS {
+        assert_eq!(engine(n).unwrap().memory().len(), memory_size(n));
+    }
+    assert_eq!([0, TAGS + 1].map(|n| number(engine(n))), [1, 1]);
+}
+
+#[test]
+fn rooms_are_the_archives() {
+    let lists = [1, TAGS].map(|n| [ffi::list_size(n as u32), ffi::table_size(n as u32)]);
+    assert_eq!(lists, [[72 * TAGS as u64, 16 * TAGS as u64]; 2]);
+    assert_eq!([ffi::group_stats_size(), ffi::panel_size()], [40 * GROUPS as u64, 1 + 2 * TAGS as u64]);
+}
+
 fn number<T: std::fmt::Debug>(refused: Result<T, Refusal>) -> u64 {
     refused.unwrap_err().number()
 }
@@ -75,4 +110,28 @@ fn the_stop_takes_queued_writes_with_it() {
     engine.stop();
     assert_eq!(engine.step(6.0, 0, Answer::Lost), Ok(Reply::Event(Event::Stopped(vec![2, 0]))));
     assert_eq!(engine.state(), State::Stopped);
+}
+
+/// An engine over one tag, at its first read, with as many writes queued as there can be.
+fn full() -> Engine {
+    let settings = [Setting::default()];
+    let mut engine = Engine::new(&["A"], OPTIONS, &settings, &[]).unwrap();
+    engine.set_tier(5.0, 0, 1).unwrap();
+    for answer in [Answer::Begin, Answer::Opened, Answer::Version(None, &settings), Answer::Taken] {
+        engine.step(5.0, 0, answer).unwrap();
+    }
+    for n in 0..32 {
+        engine.write(0, Value::Int(n)).unwrap();
+    }
+    assert_eq!(number(engine.write(0, Value::Null)), 32);
+    engine
+}
+
+#[test]
+fn more_writes_are_left_than_an_engine_has_tags() {
+    let mut engine = full();
+    assert_eq!(engine.step(5.0, 0, Answer::Lost), Ok(Reply::Event(Event::Failed(vec![0; 32]))));
+    let mut engine = full();
+    engine.stop();
+    assert_eq!(engine.step(5.0, 0, Answer::Lost), Ok(Reply::Event(Event::Stopped(vec![0; 32]))));
 }

@@ -1,10 +1,11 @@
 /* Damaged input: damaged SEED COUNT [heap]
  *
- * Calls every function COUNT times in all, with random lengths and contents, on two sorts of memory: engines, where a plain
- * model of document 01's checks says what must be answered, and memory that never was an engine. All that is lent ends or
- * begins at a page that may not be touched or, with `heap`, is allocated to the byte for valgrind. After each call every
- * lent byte is compared: nothing may be written on a refusal, and otherwise only the engine and the list that is given.
- * Prints what was met; exits 1 at the first thing that is wrong. */
+ * Calls every function COUNT times in all, with random lengths and contents, on two sorts of memory: engines, mostly of 1, 2, 5
+ * and 120 names, where a plain model of document 01's checks says what must be answered, and memory that never was an
+ * engine. All that is lent ends or begins at a page that may not be touched or, with `heap`, is allocated to the byte for
+ * valgrind. After each call every lent byte is compared: nothing may be written on a refusal, and otherwise only the engine
+ * and the list that is given. Before that, as many writes as can be queued are left at a loss and at a stop. Prints what was
+ * met; exits 1 at the first thing that is wrong. */
 #define _DEFAULT_SOURCE
 #include "../wordzike.h"
 #include "cells.h"
@@ -106,13 +107,14 @@ static const char *const names_of[CALLS] = {"wz_create", "wz_set_tier", "wz_load
                                             "wz_table",  "wz_panel",    "wz_tag"};
 /* The numbers that each may answer. */
 static const int numbers[CALLS][12] = {
-    {100, 1, 2, 3, 4, 11, 12, 13, 14}, {100, 21, 22, 23, 24}, {100, 21, 22, 51, 53, 54, 55, 56},
+    {1, 100, 2, 3, 4, 11, 12, 13, 14}, {100, 21, 22, 23, 24}, {100, 21, 22, 51, 53, 54, 55, 56},
     {100, 23, 31, 32, 42},             {100},                 {100, 43, 21, 22, 41, 14, 42},
     {100},                             {100},                 {100},
     {100, 43},                         {100, 43},             {100, 43},
     {100, 23}};
 static uint64_t met[2][CALLS][101]; /* by memory, call and number */
 static uint64_t replies[2][15];
+static uint64_t full[2]; /* as many writes as can be queued, at a loss and at a stop */
 static uint64_t calls;
 static int real; /* whether the memory is an engine's */
 
@@ -147,6 +149,16 @@ static void compare(int call, int engine, size_t out)
     }
 }
 
+/* The number of names of an engine of so many bytes, 0 where there is none. */
+static size_t names_in(size_t len)
+{
+    size_t count;
+    for (count = WZ_TAGS; count > 0; count--)
+        if (len == WZ_MEMORY(count))
+            break;
+    return count;
+}
+
 /* Counts an answer; `want` is the number that it must have, -1 where that is not known. */
 static void answered(int call, uint64_t code, int want)
 {
@@ -155,7 +167,7 @@ static void answered(int call, uint64_t code, int want)
         may = code == (uint64_t)numbers[call][k];
     if (!may)
         wrong(call, "a number that it does not have", code, 0);
-    if (slots[MEM].len != WZ_MEMORY)
+    if (call != CREATE && names_in(slots[MEM].len) == 0)
         want = WZ_NOT_AN_ENGINE;
     if (want >= 0 && code != (uint64_t)want)
         wrong(call, "another number", code, (uint64_t)want);
@@ -181,11 +193,17 @@ static int clock_number(double clock)
     return clock < model.clock ? 22 : 0;
 }
 
+/* Of its cell the low half alone. */
+static int rate_ok(uint64_t rate)
+{
+    return (uint32_t)rate != 0;
+}
+
 static int setting_ok(const uint8_t *s)
 {
     double band;
     memcpy(&band, s, 8);
-    return isfinite(band) && (cell(s, 1) == 0 || (cell(s, 1) <= 16 && cell(s, 2) > 0 && cell(s, 2) >> 32 == 0));
+    return isfinite(band) && (cell(s, 1) == 0 || (cell(s, 1) <= WZ_GROUP(15) && rate_ok(cell(s, 2))));
 }
 
 static int settings_ok(const uint8_t *s, size_t len, size_t count)
@@ -201,7 +219,7 @@ static int groups_ok(const uint8_t *g, size_t len)
 {
     size_t i;
     for (i = 0; i < len / WZ_CONFIGURED; i++)
-        if (cell(g, 2 * i) > 15 || cell(g, 2 * i + 1) == 0 || cell(g, 2 * i + 1) >> 32 != 0)
+        if (cell(g, 2 * i) > 15 || !rate_ok(cell(g, 2 * i + 1)))
             return 0;
     return len % WZ_CONFIGURED == 0 && len / WZ_CONFIGURED <= 16;
 }
@@ -225,8 +243,6 @@ static int results_ok(const uint8_t *r, size_t len)
 static int directory_number(const uint8_t *names, size_t len, const uint32_t *ends, size_t count)
 {
     size_t i, from, end;
-    if (count == 0 || count > WZ_TAGS)
-        return 1;
     for (i = 0, from = 0; i < count; from = ends[i++])
         if (ends[i] <= from || ends[i] > len || ends[i] - from > WZ_NAME)
             return 2;
@@ -244,13 +260,30 @@ static int directory_number(const uint8_t *names, size_t len, const uint32_t *en
     return 0;
 }
 
-static int options_number(const double *o)
+static int options_number(wz_options o)
 {
-    if (!(o[0] == 0 || (o[0] >= 0.001 && o[0] <= 3600)))
+    if (!(o.cycle == 0 || (o.cycle >= 0.001 && o.cycle <= 3600)))
         return 11;
-    if (!(o[1] >= 0 && o[1] <= 86400))
+    if (!(o.period >= 0 && o.period <= 86400))
         return 12;
-    return o[2] >= 0 && o[2] <= 86400 ? 0 : 13;
+    return o.grace >= 0 && o.grace <= 86400 ? 0 : 13;
+}
+
+/* Creation's, with all that is lent for it. */
+static int creation_number(size_t count, wz_options o)
+{
+    int n;
+    if (count == 0 || count > WZ_TAGS)
+        return 1;
+    if (slots[MEM].len != WZ_MEMORY(count))
+        return WZ_NOT_AN_ENGINE;
+    n = directory_number(slots[NAMES].at, slots[NAMES].len, (const uint32_t *)(void *)slots[ENDS].at, count);
+    n = n != 0 ? n : options_number(o);
+    if (n != 0)
+        return n;
+    if (!settings_ok(slots[SETTINGS].at, slots[SETTINGS].len, count))
+        return 14;
+    return groups_ok(slots[GROUPS].at, slots[GROUPS].len) ? 0 : 14;
 }
 
 static int panel_number(const uint8_t *p, size_t len)
@@ -355,6 +388,12 @@ static void harm(int s)
         x->at[below(x->len)] = (uint8_t)draw();
 }
 
+/* The cell of a rate; its other four bytes are not looked at. */
+static uint64_t a_rate(uint64_t most)
+{
+    return (once(300) ? 0 : 1 + below(most)) | (once(3) ? draw() << 32 : 0);
+}
+
 static void lend_settings(int s, size_t count)
 {
     const double bands[] = {0, 0.5, 1, -1};
@@ -364,7 +403,7 @@ static void lend_settings(int s, size_t count)
     for (i = 0; i < n / WZ_SETTING; i++) {
         put_cell(at, 4 * i, bits(bands[below(4)]));
         put_cell(at, 4 * i + 1, once(2) ? 0 : 1 + below(16));
-        put_cell(at, 4 * i + 2, 1 + below(3000));
+        put_cell(at, 4 * i + 2, a_rate(3000));
         put_cell(at, 4 * i + 3, below(2));
     }
     harm(s);
@@ -377,13 +416,13 @@ static void lend_groups(void)
     fill(GROUPS);
     for (i = 0; i < n / WZ_CONFIGURED; i++) {
         put_cell(at, 2 * i, below(16));
-        put_cell(at, 2 * i + 1, 1 + below(5000));
+        put_cell(at, 2 * i + 1, a_rate(5000));
     }
     harm(GROUPS);
 }
 
-/* Rising names: two letters, at times more, at times a bit. */
-static void lend_directory(size_t count)
+/* Rising names, 130 at most: two letters, at times more, at times a bit. */
+static void lend_names(size_t count)
 {
     uint8_t text[130 * 6];
     uint32_t ends[130];
@@ -395,15 +434,28 @@ static void lend_directory(size_t count)
             text[n++] = (uint8_t)(33 + below(94));
         ends[i] = (uint32_t)n;
     }
-    lend(NAMES, a_length(n));
-    fill(NAMES);
-    memcpy(slots[NAMES].at, text, n < slots[NAMES].len ? n : slots[NAMES].len);
-    lend(ENDS, 4 * i);
-    memcpy(slots[ENDS].at, ends, 4 * i);
-    if (i > 0 && once(20))
-        memcpy(slots[ENDS].at + 4 * below(i), &(uint32_t){(uint32_t)(once(2) ? draw() : below(n + 50))}, 4);
-    if (slots[NAMES].len > 0 && once(20))
-        slots[NAMES].at[below(slots[NAMES].len)] = (uint8_t)draw();
+    memcpy(lend(NAMES, n), text, n);
+    memcpy(lend(ENDS, 4 * i), ends, 4 * i);
+}
+
+/* Such names, now and then damaged. */
+static void lend_directory(size_t count)
+{
+    uint8_t text[130 * 6];
+    size_t n, len;
+    lend_names(count);
+    n = slots[NAMES].len;
+    len = a_length(n);
+    memcpy(text, slots[NAMES].at, n);
+    if (len != n) {
+        lend(NAMES, len);
+        fill(NAMES);
+        memcpy(slots[NAMES].at, text, n < len ? n : len);
+    }
+    if (count > 0 && once(20))
+        memcpy(slots[ENDS].at + 4 * below(count), &(uint32_t){(uint32_t)(once(2) ? draw() : below(n + 50))}, 4);
+    if (len > 0 && once(20))
+        slots[NAMES].at[below(len)] = (uint8_t)draw();
     if (once(30)) {
         lend(ENDS, 4 * below(1200));
         fill(ENDS);
@@ -465,26 +517,21 @@ static size_t listed(uint64_t count, size_t record)
     return count <= slots[OUT].len / record ? (size_t)count * record : 0;
 }
 
-static void call_create(void)
+static void call_create(size_t count)
 {
-    double o[3] = {an_option(), an_option(), an_option()};
-    size_t count = once(20) ? below(125) : 1 + below(9);
-    int want = 0;
+    wz_options o = {an_option(), an_option(), an_option()};
+    int want;
     lend_directory(count);
     count = slots[ENDS].len / 4;
     lend_settings(SETTINGS, count);
     lend_groups();
     keep();
-    want = directory_number(lent(NAMES), slots[NAMES].len, (const uint32_t *)(void *)lent(ENDS), count);
-    if (want == 0)
-        want = options_number(o);
-    if (want == 0 && !(settings_ok(lent(SETTINGS), slots[SETTINGS].len, count) && groups_ok(lent(GROUPS), slots[GROUPS].len)))
-        want = 14;
+    want = creation_number(count, o);
     done(CREATE,
          wz_create(lent(MEM), slots[MEM].len, lent(NAMES), slots[NAMES].len, (const uint32_t *)(void *)lent(ENDS),
-                   count, o[0], o[1], o[2], lent(SETTINGS), slots[SETTINGS].len, lent(GROUPS), slots[GROUPS].len),
+                   count, o, lent(SETTINGS), slots[SETTINGS].len, lent(GROUPS), slots[GROUPS].len),
          want, 0);
-    if (want == 0 && slots[MEM].len == WZ_MEMORY) {
+    if (want == 0) {
         memset(&model, 0, sizeof model);
         model.count = (uint32_t)count;
         real = 1;
@@ -546,10 +593,34 @@ static void check_reply(const wz_reply *r)
     if ((r->code == 0) != (r->kind >= 1 && r->kind <= 14))
         wrong(STEP, "a kind that is none", r->kind, 0);
     if ((!(has & 1) && r->count != 0) || (!(has & 2) && r->tag != 0) || (!(has & 4) && r->what != 0) ||
-        (!(has & 8) && (r->value != 0 || r->word != 0)) || (!(has & 16) && (r->error != 0 || r->message != 0)) ||
+        (!(has & 8) && (r->value.kind | r->value.word) != 0) || (!(has & 16) && (r->error.kind | r->error.message) != 0) ||
         (!(has & 32) && bits(r->seconds) != 0))
         wrong(STEP, "a field that this kind does not have", r->kind, 0);
     replies[!real][r->kind]++;
+}
+
+/* The last two cells of each entry told are 0. */
+static void check_changes(size_t bytes)
+{
+    size_t i;
+    for (i = 0; i < bytes / WZ_CHANGE; i++)
+        if ((cell(slots[OUT].at, 9 * i + 7) | cell(slots[OUT].at, 9 * i + 8)) != 0)
+            wrong(STEP, "one of the two cells that are 0, in change", i, 0);
+}
+
+/* What an engine lists: tags that it has; of writes that are left all that were queued, otherwise as many as it has at most. */
+static void check_listed(const wz_reply *r)
+{
+    size_t i, left = r->kind == WZ_FAILED || r->kind == WZ_STOPPED, values = r->kind == WZ_VALUES;
+    if (left ? r->count != model.queued : r->count > model.count)
+        wrong(STEP, "a count", r->count, left ? model.queued : model.count);
+    for (i = 0; i < r->count; i++) {
+        uint64_t tag = values ? cell(slots[OUT].at, 9 * i) : slots[OUT].at[2 * i] + 256u * slots[OUT].at[2 * i + 1];
+        if (tag >= model.count)
+            wrong(STEP, "a tag", tag, model.count);
+    }
+    if (left && r->count == WZ_WRITES)
+        full[r->kind == WZ_STOPPED]++;
 }
 
 static void follow(double clock, const wz_reply *r)
@@ -574,18 +645,23 @@ static void call_step(void)
         lend_settings(LIST, model.count);
     else
         lend_results();
-    lend_out(WZ_LIST);
+    lend_out(WZ_LIST(model.count));
     want = step_number(clock, kind, number);
     keep();
     r = wz_step(lent(MEM), slots[MEM].len, clock, (int64_t)draw(), kind, number, message, lent(LIST), slots[LIST].len,
                 lent(OUT), slots[OUT].len);
     check_reply(&r);
+    check_changes(r.kind == WZ_VALUES ? listed(r.count, WZ_CHANGE) : 0);
     done(STEP, r.code, real ? want : -1, listed(r.count, r.kind == WZ_VALUES ? WZ_CHANGE : WZ_LISTED));
-    if (real && want == 0)
+    if (real && want == 0) {
+        check_listed(&r);
         follow(clock, &r);
+    }
 }
 
-static void look(int call, size_t room, size_t record, wz_list_look (*f)(const uint8_t *, size_t, uint8_t *, size_t))
+/* A look that asks for `room` bytes. It has `most` records at most: of any memory where they are tags. */
+static void look(int call, size_t room, size_t record, size_t most,
+                 wz_list_look (*f)(const uint8_t *, size_t, uint8_t *, size_t))
 {
     wz_list_look r;
     int want;
@@ -595,32 +671,37 @@ static void look(int call, size_t room, size_t record, wz_list_look (*f)(const u
     r = f(lent(MEM), slots[MEM].len, lent(OUT), slots[OUT].len);
     if (r.code != 0 && r.count != 0)
         wrong(call, "a count with a refusal", r.count, 0);
-    if (real && r.code == 0 && r.count > room / record)
-        wrong(call, "a count above the limit", r.count, room / record);
+    if ((real || call != GROUP_STATS) && r.code == 0 && r.count > most)
+        wrong(call, "a count above the limit", r.count, most);
     done(call, r.code, want, listed(r.count, record));
 }
 
 static void call_tag(void)
 {
     uint32_t tag = (uint32_t)(once(9) ? draw() : below(model.count + 2));
-    wz_tag_look r;
+    wz_tag_look r, refused;
     keep();
     r = wz_tag(lent(MEM), slots[MEM].len, tag);
-    if (r.code != 0 && (r.tier | r.held | r.kind | r.word | r.t | r.error | r.message | r.description) != 0)
+    memset(&refused, 0, sizeof refused);
+    refused.code = r.code;
+    if (r.code != 0 && memcmp(&r, &refused, sizeof r) != 0)
         wrong(TAG, "a field with a refusal", r.code, 0);
+    if (r.entry.has_g != 0 || r.entry.g != 0)
+        wrong(TAG, "one of the two cells that are 0", r.entry.has_g, 0);
     done(TAG, r.code, real ? (tag >= model.count ? 23 : 0) : -1, 0);
 }
 
 static void call_look(void)
 {
+    size_t tags = names_in(slots[MEM].len);
     keep();
     switch (below(7)) {
     case 0: done(STATE, wz_state(lent(MEM), slots[MEM].len).code, 0, 0); break;
     case 1: done(STATS, wz_stats(lent(MEM), slots[MEM].len).code, 0, 0); break;
     case 2: done(COUNTS, wz_tier_counts(lent(MEM), slots[MEM].len).code, 0, 0); break;
-    case 3: look(GROUP_STATS, WZ_GROUP_STATS_LIST, WZ_GROUP_STATS, wz_group_stats); break;
-    case 4: look(TABLE, WZ_TABLE_LIST, WZ_TABLE_ROW, wz_table); break;
-    case 5: look(PANEL, WZ_PANEL_LIST, 1, wz_panel); break;
+    case 3: look(GROUP_STATS, WZ_GROUP_STATS_LIST, WZ_GROUP_STATS, WZ_GROUPS, wz_group_stats); break;
+    case 4: look(TABLE, WZ_TABLE_LIST(model.count), WZ_TABLE_ROW, tags, wz_table); break;
+    case 5: look(PANEL, WZ_PANEL_LIST, 1, 1 + 2 * tags, wz_panel); break;
     default: call_tag();
     }
 }
@@ -644,49 +725,80 @@ static void any_call(void)
 
 /* ---- the two sorts of memory */
 
-static uint8_t engine[WZ_MEMORY];
+static uint8_t engine[ROOM];
+static size_t engine_len; /* of the last one */
+
+/* Other lengths than that for so many names: one byte less or more, between two, of another number of names, any. */
+static size_t another_length(size_t count)
+{
+    switch (below(5)) {
+    case 0: return WZ_MEMORY(count) - 1;
+    case 1: return WZ_MEMORY(count) + 1;
+    case 2: return WZ_MEMORY(count) + 1 + below(265);
+    case 3: return WZ_MEMORY(below(WZ_TAGS + 3));
+    default: return below(ROOM);
+    }
+}
+
+/* Lends the first bytes of the last engine, and others where that was shorter. */
+static void lend_engine(size_t len)
+{
+    lend(MEM, len);
+    fill(MEM);
+    memcpy(slots[MEM].at, engine, len < engine_len ? len : engine_len);
+}
 
 /* An engine, from creation on. */
 static void life(void)
 {
+    static const size_t counts[4] = {1, 2, 5, WZ_TAGS};
+    size_t count = once(4) ? below(WZ_TAGS + 5) : counts[below(4)];
     int k, more;
     real = 0;
     memset(&model, 0, sizeof model);
-    lend(MEM, once(20) ? below(ROOM) : WZ_MEMORY);
+    lend(MEM, once(10) ? another_length(count) : WZ_MEMORY(count));
     fill(MEM);
-    call_create();
+    call_create(count);
     for (k = 0; real && k < 300 && !(model.waits == 8 && once(20)); k++) {
         any_call();
         for (more = once(400) ? 40 : 0; more > 0; more--)
             call_write();
-        memcpy(engine, slots[MEM].at, WZ_MEMORY);
-        memcpy(lend(MEM, WZ_MEMORY), engine, WZ_MEMORY);
-        if (once(200)) { /* memory of another length */
-            memcpy(lend(MEM, WZ_MEMORY - 1), engine, WZ_MEMORY - 1);
-            call_stop();
-            memcpy(lend(MEM, WZ_MEMORY), engine, WZ_MEMORY);
+        engine_len = slots[MEM].len;
+        memcpy(engine, slots[MEM].at, engine_len);
+        if (once(100)) { /* its bytes in memory of another length */
+            lend_engine(another_length(model.count));
+            real = 0;
+            any_call();
+            real = 1;
         }
+        lend_engine(engine_len);
     }
 }
 
-/* Memory that never was an engine, or one with some bytes changed. */
+/* Changes cells of what is lent as an engine: in its head, in what has one size, in the lists behind the table, or anywhere. */
+static void change_cells(void)
+{
+    uint64_t count = names_in(slots[MEM].len), n;
+    uint64_t parts[4][2] = {{0, 32}, {32, 360}, {392 + 32 * count, (6 + 10 * count) / 8}, {0, slots[MEM].len / 8}};
+    uint64_t *part = parts[below(4)];
+    for (n = 1 + below(40); n > 0; n--)
+        put_cell(slots[MEM].at, part[0] + below(part[1]), once(2) ? draw() : below(130));
+}
+
+/* Memory that never was an engine, or the last one with some bytes changed, also as one of another number of names. */
 static void strange(void)
 {
     int k;
-    uint64_t n;
-    model.count = (uint32_t)below(130);
-    model.waits = (int)below(9);
-    model.asked = below(121);
-    lend(MEM, once(4) ? below(ROOM) : WZ_MEMORY);
-    fill(MEM);
-    if (slots[MEM].len == WZ_MEMORY && !once(4)) {
-        /* an engine, with cells changed in its first part, in its lists, or anywhere */
-        uint64_t parts[3][2] = {{0, 32}, {32, 928}, {0, WZ_MEMORY / 8}}, *part = parts[below(3)];
-        memcpy(slots[MEM].at, engine, WZ_MEMORY);
-        for (n = 1 + below(40); n > 0; n--)
-            put_cell(slots[MEM].at, part[0] + below(part[1]), once(2) ? draw() : below(130));
-    }
     real = 0;
+    if (engine_len == 0 || once(3)) {
+        lend(MEM, once(2) ? below(ROOM) : WZ_MEMORY(1 + below(WZ_TAGS)));
+        fill(MEM);
+    } else {
+        lend_engine(once(3) ? WZ_MEMORY(1 + below(WZ_TAGS)) : engine_len);
+        change_cells();
+    }
+    model.count = (uint32_t)(once(2) ? names_in(slots[MEM].len) : below(130));
+    model.asked = below(121);
     for (k = 0; k < 60; k++) {
         model.clock = once(3) ? 0 : 1e9;
         model.waits = k % 9;
@@ -695,6 +807,74 @@ static void strange(void)
         else
             any_call();
     }
+}
+
+/* ---- as many writes as there can be, left */
+
+/* A step that must give a kind. */
+static wz_reply gives(uint64_t answer, uint64_t kind)
+{
+    wz_reply r;
+    lend(LIST, answer == WZ_VERSION_IS ? WZ_SETTING * model.count : 0);
+    memset(slots[LIST].at, 0, slots[LIST].len);
+    lend(OUT, WZ_LIST(model.count));
+    fill(OUT);
+    keep();
+    r = wz_step(lent(MEM), slots[MEM].len, 1, 0, answer, 0, 0, lent(LIST), slots[LIST].len, lent(OUT), slots[OUT].len);
+    check_reply(&r);
+    if (r.kind != kind)
+        wrong(STEP, "another kind", r.kind, kind);
+    done(STEP, r.code, 0, listed(r.count, WZ_LISTED));
+    check_listed(&r);
+    follow(1, &r);
+    return r;
+}
+
+/* An engine over so many names, at its first read. */
+static void reading(size_t count)
+{
+    static const wz_options options = {1, 2, 3};
+    real = 0;
+    lend(MEM, WZ_MEMORY(count));
+    lend_names(count);
+    lend(SETTINGS, WZ_SETTING * count);
+    memset(slots[SETTINGS].at, 0, slots[SETTINGS].len);
+    lend(GROUPS, 0);
+    keep();
+    done(CREATE,
+         wz_create(lent(MEM), slots[MEM].len, lent(NAMES), slots[NAMES].len, (const uint32_t *)(void *)lent(ENDS),
+                   count, options, lent(SETTINGS), slots[SETTINGS].len, lent(GROUPS), slots[GROUPS].len),
+         0, 0);
+    memset(&model, 0, sizeof model);
+    model.count = (uint32_t)count;
+    real = 1;
+    keep();
+    done(SET_TIER, wz_set_tier(lent(MEM), slots[MEM].len, 1, 0, 1), 0, 0);
+    gives(WZ_BEGIN, WZ_CONNECT);
+    gives(WZ_OPENED, WZ_VERSION);
+    gives(WZ_VERSION_IS, WZ_STATUS);
+    gives(WZ_TAKEN, WZ_READ);
+}
+
+/* All the writes that it takes, to its tags in turn; then the connection is lost, behind a stop or without one. The tags are
+ * listed in queue order. */
+static void left(size_t count, int stopped)
+{
+    uint64_t i;
+    reading(count);
+    for (i = 0; i <= WZ_WRITES; i++) {
+        keep();
+        done(WRITE, wz_write(lent(MEM), slots[MEM].len, (uint32_t)(i % count), WZ_INT, i), i < WZ_WRITES ? 0 : 32, 0);
+        model.queued += i < WZ_WRITES;
+    }
+    keep();
+    if (stopped)
+        done(STOP, wz_stop(lent(MEM), slots[MEM].len), 0, 0);
+    if (gives(WZ_LOST, stopped ? WZ_STOPPED : WZ_FAILED).count != WZ_WRITES)
+        wrong(STEP, "writes left", 0, WZ_WRITES);
+    for (i = 0; i < WZ_WRITES; i++)
+        if (slots[OUT].at[2 * i] != i % count || slots[OUT].at[2 * i + 1] != 0)
+            wrong(STEP, "a tag", slots[OUT].at[2 * i], i % count);
 }
 
 static void print_met(void)
@@ -714,6 +894,8 @@ static void print_met(void)
             printf(" %d: %llu", n, (unsigned long long)replies[m][n]);
         putchar('\n');
     }
+    printf("%d writes left at a loss: %llu, at a stop: %llu\n", WZ_WRITES, (unsigned long long)full[0],
+           (unsigned long long)full[1]);
 }
 
 int main(int argc, char **argv)
@@ -728,6 +910,7 @@ int main(int argc, char **argv)
     signal(SIGBUS, faulted);
     signal(SIGALRM, faulted);
     map_slots();
+    left(1, 0), left(1, 1), left(WZ_TAGS, 0), left(WZ_TAGS, 1);
     while (calls < count) {
         alarm(60);
         life();

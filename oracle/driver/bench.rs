@@ -280,23 +280,37 @@ fn growth(both: &mut Both, rounds: u64) {
 /// Rounds over which memory is looked at.
 const SIZED: u64 = 100;
 
-fn memory(lent: &mut Lent) {
-    let plan = plan(&ROUNDS[0], &some_names(MOST));
+/// The memory of both, for each row of the table: the Rust's, then ours.
+fn memory_of(lent: &mut Lent, tags: usize) -> [[usize; 2]; 4] {
+    let plan = plan(&ROUNDS[0], &some_names(tags));
     let mut handed = Handed::new(&plan.head);
     let desk = || Desk::new(&plan, SIZED).sizing();
     let [rust, rust_end] = host_rust::run(&plan, desk()).sizes;
     let [ours, ours_end] = lent.run(&plan, &mut handed, desk()).sizes;
     let rust_stack = sizes::stack_of(|| drop(host_rust::run(&plan, Desk::new(&plan, SIZED))));
     let our_stack = sizes::stack_of(|| drop(lent.run(&plan, &mut handed, Desk::new(&plan, SIZED))));
-    let number = |n: usize| commas(n as f64);
-    println!("\n| {MOST} tags | Rust | Ours |\n|---|---|---|");
-    println!("| bytes held between rounds | {} | {} |", number(rust.held as usize), number(lent.mem.len()));
-    let more = number((rust_end.most - rust.held) as usize);
-    let lists = number(lent.out.len() + handed.size());
-    println!("| bytes of lists, beside these, within a round | {more} | {lists}, kept by the host |");
-    let each = |from: u64, to: u64| commas((to - from) as f64 / SIZED as f64);
-    println!("| allocations a round | {} | {} |", each(rust.made, rust_end.made), each(ours.made, ours_end.made));
-    println!("| bytes of stack, with the host's | {} | {} |", number(rust_stack), number(our_stack));
+    let each = |from: u64, to: u64| ((to - from) as f64 / SIZED as f64).round() as usize;
+    [
+        [rust.held as usize, lent.mem.len()],
+        [(rust_end.most - rust.held) as usize, lent.out.len() + handed.size()],
+        [each(rust.made, rust_end.made), each(ours.made, ours_end.made)],
+        [rust_stack, our_stack],
+    ]
+}
+
+fn memory(lent: &mut Lent) {
+    let rows = [
+        "bytes held between rounds",
+        "bytes of lists, beside these, within a round; ours are kept by the host",
+        "allocations a round",
+        "bytes of stack, with the host's",
+    ];
+    println!("\n| | Rust, 10 tags | Ours | Rust, 60 | Ours | Rust, {MOST} | Ours |\n|---|---|---|---|---|---|---|");
+    let columns = [10, 60, MOST].map(|tags| memory_of(lent, tags));
+    for (k, what) in rows.iter().enumerate() {
+        let row = columns.iter().flat_map(|column| column[k]).map(|n| format!(" {} |", commas(n as f64)));
+        println!("| {what} |{}", row.collect::<String>());
+    }
 }
 
 /// The whole table.

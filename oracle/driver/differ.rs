@@ -58,6 +58,7 @@ impl From<wz::Value> for Val {
             wz::Value::Bool(b) => Val::Bool(b),
             wz::Value::Int(i) => Val::Int(i),
             wz::Value::Float(f) => Val::Float(f),
+            v => panic!("histories have no value {v:?}"),
         }
     }
 }
@@ -127,6 +128,7 @@ fn told_entry(e: &wz::Entry) -> String {
         Quality::Bad => "bad",
         Quality::Missing => "missing",
         Quality::Stale => "stale",
+        q => panic!("histories have no quality {q:?}"),
     };
     format!("{},{quality},{},{}", value_text(e.value), e.time, e.error.map_or("-".into(), error_text))
 }
@@ -155,6 +157,7 @@ fn reply_text(reply: &Reply) -> String {
             format!("event outcome {tag} error {}", error_text(*e))
         }
         Reply::Event(Told::Outcome(tag, Outcome::Lost)) => format!("event outcome {tag} comm lost"),
+        Reply::Event(Told::Outcome(_, outcome)) => panic!("histories have no outcome {outcome:?}"),
         Reply::Event(Told::Failed(tags)) => format!("event failed disconnected{}", tags_text(tags)),
         Reply::Event(Told::Stopped(tags)) => format!("stopped{}", tags_text(tags)),
     }

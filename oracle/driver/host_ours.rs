@@ -4,7 +4,7 @@
 use super::script::*;
 use super::timing::used;
 use super::*;
-use wordzike::ffi::Reply;
+use wordzike::ffi::{Options, Reply};
 
 const BEGIN: u64 = 0;
 const OPENED: u64 = 1;
@@ -17,17 +17,22 @@ const TAKEN: u64 = 12;
 const KIND_INT: u64 = 2;
 
 const RESULT: usize = 32;
-const CHANGE: usize = 56;
+const LISTED: usize = 2;
+const CHANGE: usize = 72;
 
 fn cell(bytes: &[u8], k: usize) -> u64 {
     u64::from_le_bytes(bytes[8 * k..8 * k + 8].try_into().expect("eight bytes"))
+}
+
+fn tag_in(bytes: &[u8]) -> u64 {
+    u16::from_le_bytes(bytes.try_into().expect("two bytes")).into()
 }
 
 fn put(bytes: &mut [u8], k: usize, word: u64) {
     bytes[8 * k..8 * k + 8].copy_from_slice(&word.to_le_bytes());
 }
 
-/// The memory that is lent: the engine, and the list of a step.
+/// The memory that is lent: the engine, and the list of a step, both as long as its number of names asks for.
 pub(super) struct Lent {
     pub mem: Vec<u8>,
     pub out: Vec<u8>,
@@ -37,7 +42,7 @@ pub(super) struct Lent {
 pub(super) struct Handed {
     names: Vec<u8>,
     ends: Vec<u32>,
-    options: [f64; 3],
+    options: Options,
     settings: Vec<u8>,
     groups: Vec<u8>,
     results: Vec<u8>,
@@ -62,7 +67,7 @@ impl Handed {
         Handed {
             names: head.names.concat().into_bytes(),
             ends: ends.collect(),
-            options: [head.cycle, head.period, head.grace],
+            options: Options { cycle: head.cycle, period: head.period, grace: head.grace },
             settings,
             groups: head.groups.iter().flat_map(|(g, r)| [*g, *r]).flat_map(u64::to_le_bytes).collect(),
             results: vec![0; RESULT * n],
@@ -77,13 +82,13 @@ impl Handed {
 
     /// Results for the tags of a list, over those of the last read.
     fn results(&mut self, desk: &mut Desk, tags: &[u8]) -> &[u8] {
-        let count = tags.len() / 8;
+        let count = tags.len() / LISTED;
         let results = &mut self.results[..RESULT * count];
         let mut sum = desk.sum;
-        for (place, (row, tag)) in results.chunks_exact_mut(RESULT).zip(tags.chunks_exact(8)).enumerate() {
-            sum = sum.wrapping_add(cell(tag, 0));
-            let (kind, word) = cells(desk.values.at(desk.turn, place));
-            for (k, word) in [kind, word, 0, 0].into_iter().enumerate() {
+        for (place, (row, tag)) in results.chunks_exact_mut(RESULT).zip(tags.chunks_exact(LISTED)).enumerate() {
+            sum = sum.wrapping_add(tag_in(tag));
+            let value = cells(desk.values.at(desk.turn, place));
+            for (k, word) in [value.kind, value.word, 0, 0].into_iter().enumerate() {
                 put(row, k, word);
             }
         }
@@ -98,10 +103,10 @@ impl Handed {
         match reply.kind {
             CONNECT => (OPENED, 0, &[]),
             VERSION => (VERSION_IS, 1, &self.settings),
-            READ | READ_BACK => (RESULTS, 0, self.results(desk, &out[..8 * count])),
+            READ | READ_BACK => (RESULTS, 0, self.results(desk, &out[..LISTED * count])),
             DESCRIBE => (DESCRIPTIONS, 0, &self.descriptions[..8 * count]),
             WRITE => {
-                desk.sum = desk.sum.wrapping_add(reply.tag).wrapping_add(reply.word);
+                desk.sum = desk.sum.wrapping_add(reply.tag).wrapping_add(reply.value.word);
                 (WRITTEN, 0, &[])
             }
             WAIT => (WAITED, 0, &[]),
@@ -110,7 +115,7 @@ impl Handed {
                 (TAKEN, 0, &[])
             }
             _ => {
-                desk.sum = desk.sum.wrapping_add(reply.word);
+                desk.sum = desk.sum.wrapping_add(reply.value.word);
                 (TAKEN, 0, &[])
             }
         }
@@ -127,19 +132,24 @@ fn changes(desk: &mut Desk, list: &[u8]) {
 }
 
 impl Lent {
+    /// Room for engines of any number of names.
     pub(super) fn new() -> Lent {
-        Lent { mem: vec![0; wordzike::MEMORY], out: vec![0; CHANGE * wordzike::TAGS] }
+        let most = wordzike::TAGS;
+        let list = wordzike::ffi::list_size(most as u32) as usize;
+        Lent { mem: Vec::with_capacity(wordzike::memory_size(most)), out: Vec::with_capacity(list) }
     }
 
     #[rustfmt::skip]
     pub(super) fn create(&mut self, handed: &Handed) {
-        let Handed { names, ends, options: [cycle, period, grace], settings, groups, .. } = handed;
+        let Handed { names, ends, options, settings, groups, .. } = handed;
+        self.mem.resize(wordzike::memory_size(ends.len()), 0);
+        self.out.resize(wordzike::ffi::list_size(ends.len() as u32) as usize, 0);
         let code = unsafe {
             tape::__real_wz_create(
                 self.mem.as_mut_ptr(), self.mem.len(),
                 names.as_ptr(), names.len(),
                 ends.as_ptr(), ends.len(),
-                *cycle, *period, *grace,
+                *options,
                 settings.as_ptr(), settings.len(),
                 groups.as_ptr(), groups.len(),
             )
@@ -179,9 +189,12 @@ impl Lent {
     }
 
     fn see(&self, desk: &mut Desk, reply: &Reply) {
-        let each = if reply.kind == VALUES { CHANGE } else { 8 };
-        let list = &self.out[..each * reply.count as usize];
-        desk.see(reply, list.chunks_exact(8).map(|c| cell(c, 0)));
+        let count = reply.count as usize;
+        if reply.kind == VALUES {
+            desk.see(reply, self.out[..CHANGE * count].chunks_exact(8).map(|c| cell(c, 0)));
+        } else {
+            desk.see(reply, self.out[..LISTED * count].chunks_exact(LISTED).map(tag_in));
+        }
     }
 
     /// An engine from its creation to its stop.
@@ -218,7 +231,7 @@ pub(super) fn alone(plan: &Plan, rounds: u64) -> Duration {
     let begun = used();
     for _ in 0..rounds {
         desk.turn += 1;
-        std::hint::black_box(handed.results(&mut desk, std::hint::black_box(&list[..8 * n])));
+        std::hint::black_box(handed.results(&mut desk, std::hint::black_box(&list[..LISTED * n])));
         changes(&mut desk, std::hint::black_box(&list));
     }
     std::hint::black_box(desk.sum);

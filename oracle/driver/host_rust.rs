@@ -49,8 +49,8 @@ impl Rust {
     fn changes(&mut self, changes: &[(String, Entry)]) {
         let mut sum = self.desk.sum;
         for (tag, e) in changes {
-            let (_, word) = cells(Val::of_json(&e.value));
-            sum = sum.wrapping_add(tag.len() as u64).wrapping_add(word).wrapping_add(e.t as u64);
+            let value = cells(Val::of_json(&e.value));
+            sum = sum.wrapping_add(tag.len() as u64).wrapping_add(value.word).wrapping_add(e.t as u64);
         }
         self.desk.sum = sum;
         self.desk.told += changes.len() as u64;
@@ -81,17 +81,17 @@ impl Rust {
         let Rust { desk, index, .. } = self;
         let list = changes.iter().flat_map(|(tag, e)| {
             assert!(e.quality == "good" && e.error.is_null(), "the script has good values alone");
-            let (kind, word) = cells(Val::of_json(&e.value));
-            [index[tag], 1, kind, word, e.t as u64, 0, 0]
+            let value = cells(Val::of_json(&e.value));
+            [index[tag], 1, value.kind, value.word, e.t as u64, 0, 0, 0, 0]
         });
         desk.see(&Reply { kind: VALUES, count: changes.len() as u64, ..NOTHING }, list);
     }
 
     fn outcome(&mut self, tag: usize, r: &WriteResult) {
         assert!(r.ok);
-        let (value, word) = cells(Val::of_json(&r.value));
-        self.desk.sum = self.desk.sum.wrapping_add(word);
-        let reply = Reply { kind: OUTCOME, tag: tag as u64, value, word, ..NOTHING };
+        let value = cells(Val::of_json(&r.value));
+        self.desk.sum = self.desk.sum.wrapping_add(value.word);
+        let reply = Reply { kind: OUTCOME, tag: tag as u64, value, ..NOTHING };
         self.desk.see(&reply, std::iter::empty());
     }
 }
@@ -120,10 +120,10 @@ impl Plc for Quick {
     fn write(&mut self, tag: &str, value: &Value) -> Result<TagResult, String> {
         self.back = true;
         with_rust(|r| {
-            let (kind, word) = cells(Val::of_write(value));
-            r.desk.sum = r.desk.sum.wrapping_add(tag.len() as u64).wrapping_add(word);
+            let value = cells(Val::of_write(value));
+            r.desk.sum = r.desk.sum.wrapping_add(tag.len() as u64).wrapping_add(value.word);
             if r.desk.seen.is_some() {
-                let reply = Reply { kind: WRITE, tag: r.index[tag], value: kind, word, ..NOTHING };
+                let reply = Reply { kind: WRITE, tag: r.index[tag], value, ..NOTHING };
                 r.desk.see(&reply, std::iter::empty());
             }
         });

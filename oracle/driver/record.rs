@@ -87,14 +87,16 @@ fn board_result(k: u64, round: u64) -> String {
     }
 }
 
-/// A history of one tag in tier 1, of which the host's lines are given: calls as they are, answers each a second after the last.
+/// A history of one tag in tier 1, of which the host's lines are given: tier calls by their tier, writes and stops as they are,
+/// answers each a second after the last.
 fn of_one_tag(lines: &[&str]) -> String {
     let mut text = format!("options {} {} {}\nname A\nsettings -,-,0\nstart\n", hex(1.0), hex(2.0), hex(5.0));
     let _ = writeln!(text, "call tier {} 0 1", hex(0.0));
     for (k, line) in lines.iter().enumerate() {
-        let _ = match line.strip_prefix("tier ") {
-            Some(tier) => writeln!(text, "call tier {} 0 {tier}", hex(k as f64)),
-            None => writeln!(text, "answer {} {} {line}", hex(k as f64), 1000 * k),
+        let _ = match line.split_once(' ') {
+            Some(("tier", tier)) => writeln!(text, "call tier {} 0 {tier}", hex(k as f64)),
+            Some(("call", call)) => writeln!(text, "call {call}"),
+            _ => writeln!(text, "answer {} {} {line}", hex(k as f64), 1000 * k),
         };
     }
     text + "call look all\n"
@@ -116,6 +118,14 @@ fn again() -> String {
     of_one_tag(&[&first[..], &gone[..]].concat())
 }
 
+/// As many writes as can be queued, all to the one tag, left at a loss; and after the next connect again, at a stop.
+fn left() -> String {
+    let writes = ["call write 0 i7"; 33];
+    let first = ["begin", "connect ok", "version 1 same", "taken"];
+    let lost = ["read lost", "taken", "taken", "waited", "taken", "connect ok", "version 1 same", "taken"];
+    of_one_tag(&[&first[..], &writes[..], &lost[..], &writes[..], &["call stop", "read lost"]].concat())
+}
+
 /// `oracle record PART ...`: all parts or nothing, to standard output; what was recorded, to standard error.
 pub(super) fn run(parts: &[&str]) {
     let (mut tape, mut met) = (Tape::default(), Met::default());
@@ -126,6 +136,7 @@ pub(super) fn run(parts: &[&str]) {
             ["board"] => record(tape, &mut met, "the board", &replay_text(&board(), false)),
             ["again"] => record(tape, &mut met, "the tag that comes back", &replay_text(&again(), false)),
             ["backoff"] => record(tape, &mut met, "the backoff", &replay_text(&backoff(), false)),
+            ["left"] => record(tape, &mut met, "the writes that are left", &replay_text(&left(), false)),
             [profile, first, count, n] => generated(tape, &mut met, profile, num(first), num(count), num(n)),
             _ => of_file(tape, &mut met, part),
         };

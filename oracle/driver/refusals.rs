@@ -1,10 +1,10 @@
 //! Calls for `oracle record` that no history has: creation's refusals, lent memory and lists of other lengths, panel lists. Beside
 //! each is the number that document 01's table gives it (100, for memory that is no engine's, is docs/DECISIONS.md's).
 
-use wordzike::{MEMORY, ffi};
+use wordzike::{GROUPS, TAGS, ffi, memory_size};
 
 const NAN: f64 = f64::NAN;
-const LIST: usize = 120 * 56;
+const LIST: usize = TAGS * 72;
 
 /// What creation is given; as it stands it is good.
 #[derive(Clone)]
@@ -45,16 +45,27 @@ fn want(number: u64, got: u64, what: &str) {
 }
 
 fn create_in(mem: &mut [u8], g: &Given) -> u64 {
-    ffi::create(mem, &g.names, &g.ends, g.options, &bytes(&g.settings), &bytes(&g.groups)).into()
+    let [cycle, period, grace] = g.options;
+    let options = ffi::Options { cycle, period, grace };
+    ffi::create(mem, &g.names, &g.ends, options, &bytes(&g.settings), &bytes(&g.groups)).into()
 }
 
-/// A creation that is refused leaves the engine that was there.
+/// A creation that is refused, in memory of so many bytes, leaves what was there.
+fn refuse_in(size: usize, number: u64, given: &Given) {
+    let mut mem = vec![0x5a; size];
+    want(number, create_in(&mut mem, given), "creation");
+    assert!(mem.iter().all(|b| *b == 0x5a), "creation refused with {number} wrote");
+}
+
 fn refuse(number: u64, change: impl Fn(&mut Given)) {
     let mut given = two();
     change(&mut given);
-    let mut mem = vec![0x5a; MEMORY];
-    want(number, create_in(&mut mem, &given), "creation");
-    assert!(mem.iter().all(|b| *b == 0x5a), "creation refused with {number} wrote");
+    refuse_in(memory_size(given.ends.len()), number, &given);
+}
+
+/// A creation that is not.
+fn accept(given: &Given, what: &str) {
+    want(0, create_in(&mut vec![0; memory_size(given.ends.len())], given), what);
 }
 
 fn names(names: &[&str]) -> impl Fn(&mut Given) {
@@ -82,9 +93,8 @@ fn directories() {
     refuse(1, |g| (g.ends, g.options) = (vec![], [NAN; 3]));
     refuse(2, |g| (g.names, g.ends) = (b"B A".to_vec(), vec![1, 1]));
     refuse(4, |g| (g.names, g.options) = (b"BA".to_vec(), [NAN; 3]));
-    let mut mem = vec![0; MEMORY];
-    want(0, create_in(&mut mem, &joined(&long[..120])), "120 names of 40 bytes");
-    want(0, create_in(&mut mem, &joined(&["!", "~"])), "the lowest and the highest byte");
+    accept(&joined(&long[..120]), "120 names of 40 bytes");
+    accept(&joined(&["!", "~"]), "the lowest and the highest byte");
 }
 
 fn options() {
@@ -98,7 +108,7 @@ fn options() {
     refuse(11, |g| g.options = [-1.0, -1.0, -1.0]);
     refuse(12, |g| (g.options, g.settings) = ([0.0, -1.0, -1.0], vec![]));
     for good in [[0.0, 0.0, 0.0], [0.001, 86400.0, 86400.0], [3600.0, 0.0, 0.0]] {
-        want(0, create_in(&mut vec![0; MEMORY], &Given { options: good, ..two() }), "options at their limits");
+        accept(&Given { options: good, ..two() }, "options at their limits");
     }
 }
 
@@ -117,21 +127,50 @@ fn settings() {
     }
     refuse(14, |g| g.groups = [3, 500].repeat(17));
     refuse(14, |g| g.groups.push(3));
-    want(0, create_in(&mut vec![0; MEMORY], &Given { groups: [3, 500].repeat(16), ..two() }), "16 groups");
+    accept(&Given { groups: [3, 500].repeat(16), ..two() }, "16 groups");
     let last = Given {
         settings: [[0; 4], [0, 16, u32::MAX.into(), 7]].concat(),
         groups: vec![15, 1, 0, u32::MAX.into()],
         ..two()
     };
-    want(0, create_in(&mut vec![0; MEMORY], &last), "group 15, and the greatest rate");
+    accept(&last, "group 15, and the greatest rate");
+    let beside =
+        Given { settings: [[0; 4], [0, 4, 1 << 63 | 500, 1]].concat(), groups: vec![3, 1 << 32 | 500], ..two() };
+    accept(&beside, "bytes beside a rate, which are not looked at");
 }
 
-/// Memory that is no engine's, for every call; it comes before all else, a list without room too.
+/// Sizes of memory about those of engines: no bytes, those for no name, between two, one byte less and more.
+fn no_sizes() -> Vec<usize> {
+    let [one, two, five, most] = [1, 2, 5, TAGS].map(memory_size);
+    let about = [one, two, five, most].map(|size| [size - 1, size + 1]).concat();
+    [vec![0, one - (two - one), (one + two) / 2, (two + five) / 2], about].concat()
+}
+
+/// Creation looks at the number of names first, then at the memory, then at all else.
+fn sizes() {
+    let most: Vec<String> = (0..=TAGS).map(|k| format!("T{k:03}")).collect();
+    let most: Vec<&str> = most.iter().map(String::as_str).collect();
+    let all = [1, 2, 5, TAGS].map(memory_size);
+    let bad = |n: usize| Given { names: vec![], options: [NAN; 3], settings: vec![], ..joined(&most[..n]) };
+    for n in [1, 2, 5, TAGS] {
+        for size in no_sizes().into_iter().chain(all).filter(|size| *size != memory_size(n)) {
+            refuse_in(size, 100, &bad(n));
+        }
+        refuse_in(memory_size(n) - 1, 100, &joined(&most[..n]));
+        refuse_in(memory_size(n), 2, &bad(n));
+        accept(&joined(&most[..n]), "memory for so many names");
+    }
+    for size in no_sizes().into_iter().chain(all) {
+        refuse_in(size, 1, &bad(0));
+        refuse_in(size, 1, &bad(TAGS + 1));
+    }
+}
+
+/// Memory that is no engine's, for every call but creation; it comes before all else, a list without room too.
 fn other_memory() {
-    for size in [0, MEMORY - 1, MEMORY + 1] {
-        let mem = &mut vec![0; MEMORY + 1][..size];
+    for size in no_sizes() {
+        let mem = &mut vec![0; size][..];
         let out = &mut [0; 16][..];
-        want(100, create_in(mem, &joined(&[])), "create");
         want(100, ffi::set_tier(mem, NAN, 0, 9).into(), "set_tier");
         want(100, ffi::load(mem, NAN, &[]).into(), "load");
         want(100, ffi::write(mem, 9, 3, NAN.to_bits()).into(), "write");
@@ -147,6 +186,11 @@ fn other_memory() {
     }
 }
 
+/// Room about that which a list asks for, with the number that it is answered with.
+fn around(room: usize) -> [(usize, u64); 4] {
+    [(0, 43), (room - 1, 43), (room, 0), (room + 10, 0)]
+}
+
 /// Lists with less room than asked for, and with just enough and more.
 fn room(mem: &mut [u8]) {
     for size in [0, LIST - 1] {
@@ -155,13 +199,13 @@ fn room(mem: &mut [u8]) {
     want(21, ffi::step(mem, NAN, 0, [0, 0, 0], &[], &mut [0; LIST]).code, "step");
     want(41, ffi::step(mem, 0.0, 0, [99, 0, 0], &[], &mut [0; LIST + 8]).code, "step");
     let out = &mut [0; 2048];
-    for (size, number) in [(0, 43), (639, 43), (640, 0), (650, 0)] {
+    for (size, number) in around(GROUPS * 40) {
         want(number, ffi::group_stats(mem, &mut out[..size]).code, "group_stats");
     }
-    for (size, number) in [(0, 43), (1919, 43), (1920, 0), (1930, 0)] {
+    for (size, number) in around(TAGS * 16) {
         want(number, ffi::table(mem, &mut out[..size]).code, "table");
     }
-    for (size, number) in [(0, 43), (240, 43), (241, 0), (242, 0)] {
+    for (size, number) in around(1 + 2 * TAGS) {
         want(number, ffi::panel(mem, &mut out[..size]).code, "panel");
     }
 }
@@ -247,9 +291,10 @@ pub(super) fn run() {
     directories();
     options();
     settings();
+    sizes();
     other_memory();
     let given = two();
-    let mut mem = vec![0; MEMORY];
+    let mut mem = vec![0; memory_size(2)];
     want(0, create_in(&mut mem, &given), "create");
     room(&mut mem);
     lists(&mut mem);

@@ -11,7 +11,7 @@ use std::hint::black_box;
 /// In seconds.
 #[repr(C)]
 #[derive(Clone, Copy)]
-struct LeafOptions {
+struct Options {
     cycle: f64,
     period: f64,
     grace: f64,
@@ -26,81 +26,49 @@ struct LeafCycle {
     begun: bool,
 }
 
+/// `code` is 0, or 100 for memory that is no board; `listed` is how many tags the round reads.
 #[repr(C)]
 #[derive(Clone, Copy)]
 struct LeafRound {
+    code: u64,
     tick: f64,
     last: f64,
     index: u64,
+    listed: u64,
     begun: bool,
     boundary: bool,
 }
 
 #[rustfmt::skip]
 unsafe extern "C" {
-    fn leaf_fill_keys(
+    safe fn leaf_size(count: usize) -> usize;
+    fn leaf_create(
+        mem: *mut u8, mem_len: usize,
         names: *const u8, names_len: usize,
         ends: *const u32, ends_len: usize,
-        keys: *mut u8, keys_len: usize,
-    );
-    fn leaf_fill_words(
-        names: *const u8, names_len: usize,
-        ends: *const u32, ends_len: usize,
-        words: *mut u8, words_len: usize,
-    );
-    fn leaf_set_tier(
-        table: *mut u8, table_len: usize,
-        order: *mut u8, order_len: usize,
-        graces: *mut u8, graces_len: usize,
-        words: *const u8, words_len: usize,
-        tag: u16, tier: u8, grace: f64, clock: f64,
-    );
-    fn leaf_cycle_tags(
-        table: *mut u8, table_len: usize,
-        order: *mut u8, order_len: usize,
-        graces: *mut u8, graces_len: usize,
-        words: *const u8, words_len: usize,
-        keys: *const u8, keys_len: usize,
-        groups: *mut u8, groups_len: usize,
-        recorded: *mut u8, recorded_len: usize,
-        sorted: *mut u8, sorted_len: usize,
-        wanted: *mut u8, wanted_len: usize,
-        list: *mut u8, list_len: usize,
-        options: LeafOptions, cycle: LeafCycle, clock: f64,
-    ) -> LeafRound;
+        settings: *const u8, settings_len: usize,
+        groups: *const u8, groups_len: usize,
+    ) -> u32;
+    fn leaf_set_tier(mem: *mut u8, mem_len: usize, tag: u16, tier: u8, grace: f64, clock: f64) -> u32;
+    fn leaf_cycle_tags(mem: *mut u8, mem_len: usize, options: Options, cycle: LeafCycle, clock: f64) -> LeafRound;
+    fn leaf_asked(mem: *const u8, mem_len: usize, out: *mut u8, out_len: usize) -> u32;
+    fn leaf_order(mem: *const u8, mem_len: usize, out: *mut u8, out_len: usize) -> u32;
+    fn leaf_graces(mem: *const u8, mem_len: usize, out: *mut u8, out_len: usize) -> u32;
+    fn leaf_tier(mem: *const u8, mem_len: usize, tag: usize) -> u32;
 }
 
-const ROW: usize = 256;
+type Look = unsafe extern "C" fn(*const u8, usize, *mut u8, usize) -> u32;
 
-/// The memory lent to the library. A tag's row has 32 little-endian cells; a list has its count and then its tags, two
-/// bytes each.
+/// A board in memory that is lent to the library, and what is kept beside it.
 struct Ours {
-    table: Vec<u8>,
-    order: Vec<u8>,
-    graces: Vec<u8>,
-    words: Vec<u8>,
-    keys: Vec<u8>,
-    groups: Vec<u8>,
-    recorded: Vec<u8>,
-    sorted: Vec<u8>,
-    wanted: Vec<u8>,
-    list: Vec<u8>,
-    options: LeafOptions,
+    board: Vec<u8>,
+    tags: usize,
+    options: Options,
     cycle: LeafCycle,
-}
-
-fn half(bytes: &[u8], at: usize) -> usize {
-    usize::from(u16::from_le_bytes([bytes[at], bytes[at + 1]]))
-}
-
-fn tags_in(list: &[u8]) -> impl Iterator<Item = usize> {
-    (1..=half(list, 0)).map(|i| half(list, 2 * i))
 }
 
 impl Ours {
     fn new(head: &Head) -> Ours {
-        let n = head.names.len();
-        let list = vec![0; 2 + 2 * n];
         let names = head.names.concat();
         let ends: Vec<u32> = head
             .names
@@ -110,72 +78,61 @@ impl Ours {
                 Some(*end)
             })
             .collect();
-        let (mut keys, mut words) = (vec![0; 2 * n], vec![0; 2 * n]);
-        unsafe {
-            leaf_fill_keys(names.as_ptr(), names.len(), ends.as_ptr(), ends.len(), keys.as_mut_ptr(), keys.len());
-            leaf_fill_words(names.as_ptr(), names.len(), ends.as_ptr(), ends.len(), words.as_mut_ptr(), words.len());
-        }
-        let mut table = vec![0; ROW * n];
-        for (row, setting) in table.chunks_mut(ROW).zip(&head.settings) {
-            if let Some((group, rate)) = setting.group {
-                for (cell, word) in [(12, 1), (13, group), (14, rate)] {
-                    row[8 * cell..8 * cell + 8].copy_from_slice(&u64::to_le_bytes(word));
-                }
+        // four cells a tag: the band's bits, the group's number and 1, its rate, and whether a description is set
+        let mut settings = Vec::new();
+        for setting in &head.settings {
+            let (group, rate) = setting.group.map_or((0, 0), |(group, rate)| (group + 1, rate));
+            for cell in [setting.band.unwrap_or(0.0).to_bits(), group, rate, u64::from(setting.description)] {
+                settings.extend(cell.to_le_bytes());
             }
         }
-        Ours {
-            table,
-            order: list.clone(),
-            graces: list.clone(),
-            words,
-            keys,
-            groups: vec![0; 16 * ROW],
-            recorded: vec![0; 34],
-            sorted: list.clone(),
-            wanted: list.clone(),
-            list,
-            options: LeafOptions { cycle: head.cycle, period: head.period, grace: head.grace },
-            cycle: LeafCycle { last: 0.0, index: 0, begun: false },
-        }
-    }
-
-    #[rustfmt::skip]
-    fn set_tier(&mut self, tag: usize, tier: u8, clock: f64) {
-        unsafe {
-            leaf_set_tier(
-                self.table.as_mut_ptr(), self.table.len(),
-                self.order.as_mut_ptr(), self.order.len(),
-                self.graces.as_mut_ptr(), self.graces.len(),
-                self.words.as_ptr(), self.words.len(),
-                tag as u16, tier, self.options.grace, clock,
-            );
-        }
-    }
-
-    #[rustfmt::skip]
-    fn round(&mut self, clock: f64) -> LeafRound {
-        let round = unsafe {
-            leaf_cycle_tags(
-                self.table.as_mut_ptr(), self.table.len(),
-                self.order.as_mut_ptr(), self.order.len(),
-                self.graces.as_mut_ptr(), self.graces.len(),
-                self.words.as_ptr(), self.words.len(),
-                self.keys.as_ptr(), self.keys.len(),
-                self.groups.as_mut_ptr(), self.groups.len(),
-                self.recorded.as_mut_ptr(), self.recorded.len(),
-                self.sorted.as_mut_ptr(), self.sorted.len(),
-                self.wanted.as_mut_ptr(), self.wanted.len(),
-                self.list.as_mut_ptr(), self.list.len(),
-                self.options, self.cycle, clock,
+        let mut board = vec![0; leaf_size(ends.len())];
+        #[rustfmt::skip]
+        let code = unsafe {
+            leaf_create(
+                board.as_mut_ptr(), board.len(),
+                names.as_ptr(), names.len(),
+                ends.as_ptr(), ends.len(),
+                settings.as_ptr(), settings.len(),
+                std::ptr::dangling(), 0,
             )
         };
+        assert_eq!(code, 0, "a board");
+        let options = Options { cycle: head.cycle, period: head.period, grace: head.grace };
+        Ours { board, tags: ends.len(), options, cycle: LeafCycle { last: 0.0, index: 0, begun: false } }
+    }
+
+    fn set_tier(&mut self, tag: usize, tier: u8, clock: f64) {
+        let b = &mut self.board;
+        let code = unsafe { leaf_set_tier(b.as_mut_ptr(), b.len(), tag as u16, tier, self.options.grace, clock) };
+        debug_assert_eq!(code, 0);
+    }
+
+    fn round(&mut self, clock: f64) -> LeafRound {
+        let b = &mut self.board;
+        let round = unsafe { leaf_cycle_tags(b.as_mut_ptr(), b.len(), self.options, self.cycle, clock) };
+        debug_assert_eq!(round.code, 0);
         self.cycle = LeafCycle { last: round.last, index: round.index, begun: round.begun };
         round
     }
 
+    /// The tags of a list, which has its count and then each tag, two bytes each.
+    fn list(&self, look: Look) -> Vec<usize> {
+        let mut out = vec![0; 2 + 2 * self.tags];
+        let code = unsafe { look(self.board.as_ptr(), self.board.len(), out.as_mut_ptr(), out.len()) };
+        assert_eq!(code, 0, "a look");
+        let half = |at: usize| usize::from(u16::from_le_bytes([out[at], out[at + 1]]));
+        (1..=half(0)).map(|i| half(2 * i)).collect()
+    }
+
+    fn tier(&self, tag: usize) -> u8 {
+        unsafe { leaf_tier(self.board.as_ptr(), self.board.len(), tag) as u8 }
+    }
+
     /// Tags and tiers in table order, and the tags in grace.
     fn tiers(&self) -> (Vec<(usize, u8)>, Vec<usize>) {
-        (tags_in(&self.order).map(|k| (k, self.table[ROW * k])).collect(), tags_in(&self.graces).collect())
+        let order = self.list(leaf_order).into_iter().map(|k| (k, self.tier(k)));
+        (order.collect(), self.list(leaf_graces))
     }
 }
 
@@ -214,8 +171,9 @@ impl Both {
         let (tags, tick, boundary) = self.rust_round(self.now);
         let want: Vec<usize> = tags.iter().map(|t| self.index[t]).collect();
         let round = self.ours.round(self.now);
-        let got: Vec<usize> = tags_in(&self.ours.list).collect();
-        if want == got && tick.to_bits() == round.tick.to_bits() && boundary == round.boundary {
+        let got = self.ours.list(leaf_asked);
+        let counted = round.listed == got.len() as u64;
+        if want == got && counted && tick.to_bits() == round.tick.to_bits() && boundary == round.boundary {
             return Ok(want.len());
         }
         let ours = (got, round.tick, round.boundary);
@@ -343,8 +301,7 @@ fn time_rounds(names: &[String], what: &str, tiers: Tiers, rounds: usize) -> usi
                 let (tag, tier) = change(i);
                 both.ours.set_tier(tag, tier, now);
             }
-            black_box(both.ours.round(now));
-            ours_listed += half(&both.ours.list, 0);
+            ours_listed += black_box(both.ours.round(now)).listed as usize;
             now += step;
         }
         best.take(rust, used() - begun, rounds);
@@ -358,7 +315,7 @@ fn time_rounds(names: &[String], what: &str, tiers: Tiers, rounds: usize) -> usi
 }
 
 pub(super) fn run(count: usize, rounds: usize) {
-    assert!((1..65536).contains(&count) && rounds > 0, "1 to 65535 tags, 1 or more rounds");
+    assert!(leaf_size(count) > 0 && rounds > 0, "as many tags as a directory can have, 1 or more rounds");
     let names = some_names(count);
     let calls = rounds * 10;
     println!(

@@ -5,7 +5,7 @@
 use super::sizes::Counts;
 use super::timing::used;
 use super::*;
-use wordzike::ffi::Reply;
+use wordzike::ffi::{Error, Reply, Value as Cells};
 
 pub(super) const CONNECT: u64 = 1;
 pub(super) const VERSION: u64 = 2;
@@ -21,8 +21,16 @@ pub(super) const INFO: u64 = 11;
 pub(super) const OUTCOME: u64 = 12;
 pub(super) const STOPPED: u64 = 14;
 
-pub(super) const NOTHING: Reply =
-    Reply { code: 0, kind: 0, count: 0, tag: 0, what: 0, value: 0, word: 0, error: 0, message: 0, seconds: 0.0 };
+pub(super) const NOTHING: Reply = Reply {
+    code: 0,
+    kind: 0,
+    count: 0,
+    tag: 0,
+    what: 0,
+    value: Cells { kind: 0, word: 0 },
+    error: Error { kind: 0, message: 0 },
+    seconds: 0.0,
+};
 
 /// Rounds, or writes, before the time is taken.
 const WARM: u64 = 20;
@@ -175,18 +183,19 @@ impl Desk {
 
     pub(super) fn see(&mut self, reply: &Reply, list: impl Iterator<Item = u64>) {
         let Some(seen) = &mut self.seen else { return };
-        let Reply { kind, count, tag, what, value, word, error, message, seconds, .. } = *reply;
-        seen.extend([kind, count, tag, what, value, word, error, message, seconds.to_bits()]);
+        let Reply { kind, count, tag, what, value, error, seconds, .. } = *reply;
+        seen.extend([kind, count, tag, what, value.kind, value.word, error.kind, error.message, seconds.to_bits()]);
         seen.extend(list);
     }
 }
 
 /// The two cells of a value.
-pub(super) fn cells(v: Val) -> (u64, u64) {
-    match v {
+pub(super) fn cells(v: Val) -> Cells {
+    let (kind, word) = match v {
         Val::Null => (0, 0),
         Val::Bool(b) => (1, u64::from(b)),
         Val::Int(i) => (2, i as u64),
         Val::Float(f) => (3, f.to_bits()),
-    }
+    };
+    Cells { kind, word }
 }

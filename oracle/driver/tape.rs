@@ -123,10 +123,11 @@ const NAMED: [&[usize]; 15] =
     [&[], &[], &[], &[2], &[3, 5, 6], &[2], &[2], &[9], &[2], &[4], &[], &[2], &[3, 4, 5, 6, 7, 8], &[2], &[2]];
 
 fn reply(r: &ffi::Reply) -> (Vec<u64>, u64) {
-    let cells = [r.code, r.kind, r.count, r.tag, r.what, r.value, r.word, r.error, r.message, r.seconds.to_bits()];
+    let ffi::Reply { code, kind, count, tag, what, value, error, seconds } = *r;
+    let cells = [code, kind, count, tag, what, value.kind, value.word, error.kind, error.message, seconds.to_bits()];
     let mut unnamed = (2..cells.len()).filter(|k| !NAMED[r.kind as usize].contains(k));
     assert!(unnamed.all(|k| cells[k] == 0), "a reply has more than its kind names: {r:?}");
-    (cells.to_vec(), r.count * if r.kind == 8 { 56 } else { 8 })
+    (cells.to_vec(), r.count * if r.kind == 8 { 72 } else { 2 })
 }
 
 fn listed(size: u64) -> impl Fn(&ffi::ListLook) -> (Vec<u64>, u64) {
@@ -155,9 +156,7 @@ unsafe extern "C" {
         names_len: usize,
         ends: *const u32,
         ends_len: usize,
-        cycle: f64,
-        period: f64,
-        grace: f64,
+        options: ffi::Options,
         settings: Bytes,
         settings_len: usize,
         groups: Bytes,
@@ -197,9 +196,7 @@ unsafe extern "C" fn __wrap_wz_create(
     names_len: usize,
     ends: *const u32,
     ends_len: usize,
-    cycle: f64,
-    period: f64,
-    grace: f64,
+    options: ffi::Options,
     settings: Bytes,
     settings_len: usize,
     groups: Bytes,
@@ -207,22 +204,9 @@ unsafe extern "C" fn __wrap_wz_create(
 ) -> u32 {
     let places: Vec<u8> = unsafe { lent(ends, ends_len) }.iter().flat_map(|e| e.to_le_bytes()).collect();
     let [a, b, c] = unsafe { [lent(names, names_len), lent(settings, settings_len), lent(groups, groups_len)] };
+    let ffi::Options { cycle, period, grace } = options;
     let call = |_: &mut [u8]| unsafe {
-        __real_wz_create(
-            mem,
-            n,
-            names,
-            names_len,
-            ends,
-            ends_len,
-            cycle,
-            period,
-            grace,
-            settings,
-            settings_len,
-            groups,
-            groups_len,
-        )
+        __real_wz_create(mem, n, names, names_len, ends, ends_len, options, settings, settings_len, groups, groups_len)
     };
     taped((1, n), &[cycle, period, grace].map(f64::to_bits), &[a, &places, b, c], &mut [], call, code)
 }
@@ -313,7 +297,10 @@ unsafe extern "C" fn __wrap_wz_panel(mem: Bytes, n: usize, out: Mem, out_len: us
 
 #[unsafe(no_mangle)]
 unsafe extern "C" fn __wrap_wz_tag(mem: Bytes, n: usize, tag: u32) -> ffi::TagLook {
-    let cells =
-        |r: &ffi::TagLook| (vec![r.code, r.tier, r.held, r.kind, r.word, r.t, r.error, r.message, r.description], 0);
+    let cells = |r: &ffi::TagLook| {
+        let ffi::Entry { quality, value, t, error, has_g, g } = r.entry;
+        let entry = [quality, value.kind, value.word, t as u64, error.kind, error.message, has_g, g as u64];
+        ([&[r.code, r.tier], &entry[..], &[r.description]].concat(), 0)
+    };
     taped((13, n), &[tag.into()], &[], &mut [], |_| unsafe { __real_wz_tag(mem, n, tag) }, cells)
 }

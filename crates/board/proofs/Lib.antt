@@ -1,5 +1,2 @@
--- Laws of the board's parts.
-pub mod Laws
-pub mod PartLaws
-pub mod CallLaws
-pub mod CreationLaws
+-- Laws of the board and of its parts.
+pub mod BoardLaws

@@ -1,5 +1,3 @@
 -- The board: all that an engine keeps beside its head.
-pub mod Regions
+pub mod Layout
 pub mod Board
-pub mod Creation
-pub mod Lending

@@ -1,97 +1,111 @@
-// Parts of the board, copied out of their places and back. A part is cut out of the board here and nowhere else, as each
-// cut makes the proof of the function that writes it slow.
+// Parts handed out to read.
 ghost use mathlib.Core.Path.{_≡_};
-ghost use Prim.Native.Nat.{_+_, _≤_};
-ghost use lib.ListN.{length, take};
-ghost use borrow.Rule.Slice.PartMut.{putMid};
-ghost use Rattle.tags.specs.Lists.{listIn};
-ghost use Rattle.board.specs.Regions.{part, boardSize};
-use memory::halves::put_half;
-use tags::count;
+ghost use Rattle.board.specs.Layout.{IsBoard, partsIn, back, recorded, configured, queue, groups, table, order, graces, asked, keys, words};
+use super::starts::asked_start;
+use super::starts::configured_start;
+use super::starts::graces_start;
+use super::starts::groups_start;
+use super::starts::keys_start;
+use super::starts::order_start;
+use super::starts::queue_start;
+use super::starts::recorded_start;
+use super::starts::table_start;
+use super::starts::words_start;
 
-fn copied(s: &[u8]) -> [u8; 256]
-    requires { ⌜ length (now s) ≡ 256 ⌝ }
-    ensures { λ r. ⌜ r ≡ now (s .entry) ⌝ }
+pub fn back_of(b: &[u8]) -> &[u8]
+    requires { ⌜ IsBoard (now b) ⌝ }
+    ensures { λ r. ⌜ now r ≡ partsIn (now (b .entry)) back ⌝ }
 {
-    let mut w = [0u8; 256];
-    let mut i: usize = 0;
-    while i < 256 {
-        w[i] = s[i];
-        i += 1;
-    }
-    w
+    let end = recorded_start(b);
+    &b[0..end]
 }
 
-fn put_back(s: &mut [u8], w: [u8; 256])
-    requires { ⌜ length (now s) ≡ 256 ⌝ }
-    ensures { λ _. ⌜ now (s .exit) ≡ w ⌝ }
+pub fn recorded_of(b: &[u8]) -> &[u8]
+    requires { ⌜ IsBoard (now b) ⌝ }
+    ensures { λ r. ⌜ now r ≡ partsIn (now (b .entry)) recorded ⌝ }
 {
-    let mut i: usize = 0;
-    while i < 256 {
-        s[i] = w[i];
-        i += 1;
-    }
+    let start = recorded_start(b);
+    let end = configured_start(b);
+    &b[start..end]
 }
 
-// The part of 256 bytes from `at` on.
-pub fn part_of(board: &[u8], at: usize) -> [u8; 256]
-    requires { ⌜ at + 256 ≤ length (now board) ⌝ }
-    ensures { λ r. ⌜ r ≡ part at 256 (now (board .entry)) ⌝ }
+pub fn configured_of(b: &[u8]) -> &[u8]
+    requires { ⌜ IsBoard (now b) ⌝ }
+    ensures { λ r. ⌜ now r ≡ partsIn (now (b .entry)) configured ⌝ }
 {
-    copied(&board[at..at + 256])
+    let start = configured_start(b);
+    let end = queue_start(b);
+    &b[start..end]
 }
 
-pub fn put_part(board: &mut [u8], at: usize, w: [u8; 256])
-    requires { ⌜ at + 256 ≤ length (now board) ⌝ }
-    ensures { λ _. ⌜ now (board .exit) ≡ putMid at 256 (now (board .entry)) w ⌝ }
+pub fn queue_of(b: &[u8]) -> &[u8]
+    requires { ⌜ IsBoard (now b) ⌝ }
+    ensures { λ r. ⌜ now r ≡ partsIn (now (b .entry)) queue ⌝ }
 {
-    put_back(&mut board[at..at + 256], w);
+    let start = queue_start(b);
+    let end = groups_start(b);
+    &b[start..end]
 }
 
-// The same for the groups, a row of 256 bytes for each of 16.
-fn groups_copied(s: &[u8]) -> [u8; 4096]
-    requires { ⌜ length (now s) ≡ 4096 ⌝ }
-    ensures { λ r. ⌜ r ≡ now (s .entry) ⌝ }
+pub fn groups_of(b: &[u8]) -> &[u8]
+    requires { ⌜ IsBoard (now b) ⌝ }
+    ensures { λ r. ⌜ now r ≡ partsIn (now (b .entry)) groups ⌝ }
 {
-    let mut w = [0u8; 4096];
-    let mut i: usize = 0;
-    while i < 4096 {
-        w[i] = s[i];
-        i += 1;
-    }
-    w
+    let start = groups_start(b);
+    let end = table_start(b);
+    &b[start..end]
 }
 
-fn put_groups_back(s: &mut [u8], w: [u8; 4096])
-    requires { ⌜ length (now s) ≡ 4096 ⌝ }
-    ensures { λ _. ⌜ now (s .exit) ≡ w ⌝ }
+pub fn table_of(b: &[u8]) -> &[u8]
+    requires { ⌜ IsBoard (now b) ⌝ }
+    ensures { λ r. ⌜ now r ≡ partsIn (now (b .entry)) table ⌝ }
 {
-    let mut i: usize = 0;
-    while i < 4096 {
-        s[i] = w[i];
-        i += 1;
-    }
+    let start = table_start(b);
+    let end = order_start(b);
+    &b[start..end]
 }
 
-pub fn groups_of(board: &[u8]) -> [u8; 4096]
-    requires { ⌜ length (now board) ≡ boardSize ⌝ }
-    ensures { λ r. ⌜ r ≡ part 3328 4096 (now (board .entry)) ⌝ }
+pub fn order_of(b: &[u8]) -> &[u8]
+    requires { ⌜ IsBoard (now b) ⌝ }
+    ensures { λ r. ⌜ now r ≡ partsIn (now (b .entry)) order ⌝ }
 {
-    groups_copied(&board[3328..7424])
+    let start = order_start(b);
+    let end = graces_start(b);
+    &b[start..end]
 }
 
-pub fn put_groups(board: &mut [u8], w: [u8; 4096])
-    requires { ⌜ length (now board) ≡ boardSize ⌝ }
-    ensures { λ _. ⌜ now (board .exit) ≡ putMid 3328 4096 (now (board .entry)) w ⌝ }
+pub fn graces_of(b: &[u8]) -> &[u8]
+    requires { ⌜ IsBoard (now b) ⌝ }
+    ensures { λ r. ⌜ now r ≡ partsIn (now (b .entry)) graces ⌝ }
 {
-    put_groups_back(&mut board[3328..7424], w);
+    let start = graces_start(b);
+    let end = asked_start(b);
+    &b[start..end]
 }
 
-// The first n tags of a list.
-pub fn shorten(list: &mut [u8], n: usize)
-    ensures { λ _. ⌜ listIn (now (list .exit)) ≡ take n (listIn (now (list .entry))) ⌝ }
+pub fn asked_of(b: &[u8]) -> &[u8]
+    requires { ⌜ IsBoard (now b) ⌝ }
+    ensures { λ r. ⌜ now r ≡ partsIn (now (b .entry)) asked ⌝ }
 {
-    if n < count(list) {
-        put_half(list, 0, n);
-    }
+    let start = asked_start(b);
+    let end = keys_start(b);
+    &b[start..end]
+}
+
+pub fn keys_of(b: &[u8]) -> &[u8]
+    requires { ⌜ IsBoard (now b) ⌝ }
+    ensures { λ r. ⌜ now r ≡ partsIn (now (b .entry)) keys ⌝ }
+{
+    let start = keys_start(b);
+    let end = words_start(b);
+    &b[start..end]
+}
+
+pub fn words_of(b: &[u8]) -> &[u8]
+    requires { ⌜ IsBoard (now b) ⌝ }
+    ensures { λ r. ⌜ now r ≡ partsIn (now (b .entry)) words ⌝ }
+{
+    let start = words_start(b);
+    let end = b.len();
+    &b[start..end]
 }

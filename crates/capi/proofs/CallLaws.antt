@@ -1,26 +1,29 @@
 -- What a call comes to: memory of another length, a refusal, or the work done.
 use mathlib.Core.Path.{_≡_, refl, ap, ap₂, sym, _∙_}
-use mathlib.Core.Bool.{Bool, true, false, cond, true≢false}
+use mathlib.Core.Bool.{Bool, true, false, cond, _||_, true≢false}
 use mathlib.Core.List.{List, []}
-use Prim.Native.Nat.{ℕ}
+use Prim.Native.Nat.{ℕ, _-_, _≤_, _<_}
+use native.Mathlib.Omega.{arith}
 use borrow.Rule.Slice.PartMut.{putMid, put-same}
-use lib.Dec.{eqb}
+use lib.Dec.{eqb, ltb}
 use lib.ListN.{length}
-use borrow.Author.Tests.{ne-eqb}
+use borrow.Author.Tests.{eqb-true, eqb-false, ltb-false, eq-eqb, ne-eqb, lt-ltb, le-ltb}
+use Rattle.names.specs.Directory.{badCount, maxNames}
+use Rattle.checks.specs.Creation.{Setup, creationCheck}
 use Rattle.engine.specs.declared.Engine.{Engine}
 use Rattle.lent.specs.Lent.{wroteAll}
-use Rattle.board.specs.Regions.{part, boardSize}
 use Rattle.replies.specs.Reply as reply
 use Rattle.replies.specs.Worker.{Worker, Told, At, worker, tell}
 use Rattle.replies.specs.declared.reply.Reply.{Reply}
 use Rattle.replies.specs.declared.reply.Said.{Said}
 use Rattle.worker.specs.Answers.{Answer, stepCheck, stepped, step, Stepped as StepDone}
 use Rattle.worker.proofs.StepLaws.{stepped-plain}
-use Rattle.capi.specs.Memory.{memorySize, notAnEngine, workerIn, Called}
-use Rattle.capi.proofs.Laws.{board-put}
+use Rattle.capi.specs.Memory.{headSize, memorySize, notAnEngine, sizeCheck, IsEngine, boardBytes, workerIn, Called}
+use Rattle.capi.specs.Creation.{creationAnswer, freshWorker, Created}
+use Rattle.capi.proofs.Laws.{size-right, board-put}
 use Rattle.capi.specs.Calls.{SteppedBoard, Stepped}
 
-pub alien-call : (bs : List ℕ) (n : ℕ) (W : Worker) → (length bs ≡ memorySize → ⊥) → Called bs bs notAnEngine n W
+pub alien-call : (bs : List ℕ) (n : ℕ) (W : Worker) → (IsEngine bs → ⊥) → Called bs bs notAnEngine n W
 alien-call bs n W h = record {
   alien = λ g. refl;
   code = λ g. absurd (h g);
@@ -29,7 +32,7 @@ alien-call bs n W h = record {
   long = refl;
 }
 
-pub refused-call : (bs : List ℕ) (r n : ℕ) (W : Worker) → length bs ≡ memorySize → r ≡ n → (r ≡ 0 → ⊥) → Called bs bs r n W
+pub refused-call : (bs : List ℕ) (r n : ℕ) (W : Worker) → IsEngine bs → r ≡ n → (r ≡ 0 → ⊥) → Called bs bs r n W
 refused-call bs r n W h e z = record {
   alien = λ g. absurd (g h);
   code = λ g. e;
@@ -38,7 +41,7 @@ refused-call bs r n W h e z = record {
   long = refl;
 }
 
-pub done-call : (old new : List ℕ) (n : ℕ) (W : Worker) → length old ≡ memorySize → 0 ≡ n → workerIn new ≡ W → length new ≡ length old → Called old new 0 n W
+pub done-call : (old new : List ℕ) (n : ℕ) (W : Worker) → IsEngine old → 0 ≡ n → workerIn new ≡ W → length new ≡ length old → Called old new 0 n W
 done-call old new n W h e d l = record {
   alien = λ g. absurd (g h);
   code = λ g. e;
@@ -47,22 +50,87 @@ done-call old new n W h e d l = record {
   long = l;
 }
 
+-- ---- creation
+
+module _ (s : Setup) where
+  count-bad : (b c : Bool) → eqb (length (s .ends)) 0 ≡ b → ltb maxNames (length (s .ends)) ≡ c → badCount maxNames (s .ends) ≡ (b || c)
+  count-bad b c e f = rw (e, f) refl
+
+  pub no-names : (bs : List ℕ) → length (s .ends) ≡ 0 → Created bs bs 1 s
+  unfolding creationAnswer
+  no-names bs e = record {
+    code = rw (count-bad true (ltb maxNames (length (s .ends))) (eq-eqb (length (s .ends)) 0 e) refl) refl;
+    done = λ z. absurd (omega (arith, z));
+    kept = λ z. refl;
+    long = refl;
+  }
+
+  pub many-names : (bs : List ℕ) → (length (s .ends) ≡ 0 → ⊥) → maxNames < length (s .ends) → Created bs bs 1 s
+  unfolding creationAnswer
+  many-names bs d h = record {
+    code = rw (count-bad false true (ne-eqb (length (s .ends)) 0 d) (lt-ltb maxNames (length (s .ends)) h)) refl;
+    done = λ z. absurd (omega (arith, z));
+    kept = λ z. refl;
+    long = refl;
+  }
+
+  module _ (bs : List ℕ) (d : length (s .ends) ≡ 0 → ⊥) (h : length (s .ends) ≤ maxNames) where
+    count-good : badCount maxNames (s .ends) ≡ false
+    count-good = count-bad false false (ne-eqb (length (s .ends)) 0 d) (le-ltb maxNames (length (s .ends)) h)
+
+    pub other-size : (length bs ≡ memorySize (length (s .ends)) → ⊥) → Created bs bs notAnEngine s
+    unfolding creationAnswer
+    other-size o = record {
+      code = rw (count-good, ne-eqb (length bs) (memorySize (length (s .ends))) o) refl;
+      done = λ z. absurd (omega (arith, z));
+      kept = λ z. refl;
+      long = refl;
+    }
+
+    module _ (r : ℕ) (e : length bs ≡ memorySize (length (s .ends))) (c : r ≡ creationCheck s) where
+      checked : r ≡ creationAnswer s (length bs)
+      unfolding creationAnswer
+      checked = c ∙ sym (rw (count-good, eq-eqb (length bs) (memorySize (length (s .ends))) e) refl)
+
+      pub not-made : (r ≡ 0 → ⊥) → Created bs bs r s
+      not-made z = record { code = checked; done = λ y. absurd (z y); kept = λ y. refl; long = refl }
+
+      pub is-made : (new : List ℕ) → r ≡ 0 → workerIn new ≡ freshWorker s → length new ≡ length bs → Created bs new 0 s
+      is-made new z w l = record { code = sym z ∙ checked; done = λ y. w; kept = λ y. absurd (y refl); long = l }
+
+-- where creation answers 0 the checks refuse nothing, and the memory is an engine's
+pub created-engine : (s : Setup) (n : ℕ) → creationAnswer s n ≡ 0 → (creationCheck s ≡ 0) × (sizeCheck n ≡ 0)
+unfolding creationAnswer
+created-engine s n e = go (eqb (length (s .ends)) 0) refl (ltb maxNames (length (s .ends))) refl (eqb n (memorySize (length (s .ends)))) refl e
+  where
+    go : (a : Bool) → eqb (length (s .ends)) 0 ≡ a → (b : Bool) → ltb maxNames (length (s .ends)) ≡ b → (c : Bool) → eqb n (memorySize (length (s .ends))) ≡ c
+        → cond (a || b) 1 (cond c (creationCheck s) notAnEngine) ≡ 0 → (creationCheck s ≡ 0) × (sizeCheck n ≡ 0)
+    go true p b q c r e = absurd (omega (arith, e))
+    go false p true q c r e = absurd (omega (arith, e))
+    go false p false q false r e = absurd (omega (arith, e))
+    go false p false q true r e =
+        let some : 1 ≤ length (s .ends) = positive (length (s .ends)) (eqb-false (length (s .ends)) 0 p) in
+        (e, ap sizeCheck (eqb-true n (memorySize (length (s .ends))) r) ∙ size-right (length (s .ends)) some (ltb-false maxNames (length (s .ends)) q))
+      where
+        positive : (m : ℕ) → (m ≡ 0 → ⊥) → 1 ≤ m
+        positive m d = omega (arith, d)
+
 -- ---- steps
 
 -- a step that was done on the board in its part of the memory
-pub step-put : (bs y out out' : List ℕ) (s : Said) (T U : Told) → length bs ≡ memorySize → length y ≡ length (part 256 boardSize bs) → T ≡ U
-    → StepDone T s (part 256 boardSize bs) y out out' → SteppedBoard U s bs (putMid 256 38144 bs y) out out'
+pub step-put : (bs y out out' : List ℕ) (s : Said) (T U : Told) → IsEngine bs → length y ≡ length (boardBytes bs) → T ≡ U
+    → StepDone T s (boardBytes bs) y out out' → SteppedBoard U s bs (putMid headSize (length bs - headSize) bs y) out out'
 step-put bs y out out' s T U h l e d =
     let p = board-put bs y h l in
     record {
       head-is = d .done .head-is ∙ ap (λ (t : Told). t .left .head) e;
       board-is = ap (λ (W : Worker). W .board) p ∙ d .done .board-is ∙ ap (λ (t : Told). t .left .board) e;
       reply-is = d .done .reply-is ∙ ap (λ (t : Told). t .reply) e;
-      out-is = d .done .out-is ∙ ap (λ (t : Told). wroteAll out (t .cells)) e;
-      kept = λ z. let k = d .kept z in (ap (λ (x : List ℕ). putMid 256 38144 bs x) (k .0) ∙ put-same 256 38144 bs, k .1);
+      out-is = d .done .out-is ∙ ap (λ (t : Told). wroteAll out (t .bytes)) e;
+      kept = λ z. let k = d .kept z in (ap (λ (x : List ℕ). putMid headSize (length bs - headSize) bs x) (k .0) ∙ put-same headSize (length bs - headSize) bs, k .1);
     }
 
-pub alien-step : (bs out : List ℕ) (r : Reply) (T : Told) → (length bs ≡ memorySize → ⊥) → r ≡ reply.refused notAnEngine → Stepped bs bs r out out T
+pub alien-step : (bs out : List ℕ) (r : Reply) (T : Told) → (IsEngine bs → ⊥) → r ≡ reply.refused notAnEngine → Stepped bs bs r out out T
 alien-step bs out r T h e = record {
   alien = λ g. e;
   reply-is = λ g. absurd (h g);
@@ -82,7 +150,7 @@ left-same W at a n z = go (eqb (stepCheck W at a n) 0) refl z
     go true e q = let p : eqb (stepped W at a .reply .code) 0 ≡ true = rw (stepped-plain W at a .accepted) refl in absurd (true≢false (sym p ∙ q))
     go false e q = refl
 
-module _ (bs new out out' : List ℕ) (s : Said) (e : Engine) (at : At) (a : Answer) (h : length bs ≡ memorySize) (head : e ≡ workerIn bs .head) where
+module _ (bs new out out' : List ℕ) (s : Said) (e : Engine) (at : At) (a : Answer) (h : IsEngine bs) (head : e ≡ workerIn bs .head) where
   abbrev T : Told
   T = step (workerIn bs) at a (length out)
 
@@ -101,7 +169,7 @@ module _ (bs new out out' : List ℕ) (s : Said) (e : Engine) (at : At) (a : Ans
           alien = λ g. absurd (g h);
           reply-is = λ g. reply-same;
           left-is = λ g. ap workerIn (k .0) ∙ sym (left-same (workerIn bs) at a (length out) (ap (λ (r : Reply). eqb (r .code) 0) (sym reply-same) ∙ z'));
-          out-is = λ g. d .out-is ∙ ap (λ (t : Told). wroteAll out (t .cells)) same;
+          out-is = λ g. d .out-is ∙ ap (λ (t : Told). wroteAll out (t .bytes)) same;
           kept = λ g. k;
           long = l;
         }
@@ -111,7 +179,7 @@ module _ (bs new out out' : List ℕ) (s : Said) (e : Engine) (at : At) (a : Ans
       alien = λ g. absurd (g h);
       reply-is = λ g. reply-same;
       left-is = λ g. w ∙ ap₂ {C = Worker} worker (d .head-is) (d .board-is) ∙ ap (λ (t : Told). t .left) same;
-      out-is = λ g. d .out-is ∙ ap (λ (t : Told). wroteAll out (t .cells)) same;
+      out-is = λ g. d .out-is ∙ ap (λ (t : Told). wroteAll out (t .bytes)) same;
       kept = λ g. absurd (g z);
       long = l;
     }

@@ -9,23 +9,23 @@ use lib.Ieee.{Float}
 use lib.IntN.{ℤ}
 use lib.ListN.{length}
 use Rattle.words.specs.Value.{valueFrom}
+use Rattle.rounds.specs.declared.tick.Options.{Options}
 use Rattle.lent.specs.Lent.{wroteAll, records}
-use Rattle.board.specs.Board.{rowCells}
 use Rattle.replies.specs.Worker.{Worker, at, Told}
 use Rattle.replies.specs.Reply as reply
 use Rattle.replies.specs.declared.reply.Reply.{Reply}
 use Rattle.worker.specs.Answers.{step}
-use Rattle.shown.specs.Looks.{listed, leftIn, panelLeft}
+use Rattle.shown.specs.Looks.{listed, leftIn, panelLeft, rowCells}
 use Rattle.shown.specs.declared.head.StateLook.{StateLook}
 use Rattle.shown.specs.declared.head.StatsLook.{StatsLook}
 use Rattle.shown.specs.declared.counts.CountsLook.{CountsLook}
 use Rattle.shown.specs.declared.lists.ListLook.{ListLook}
 use Rattle.shown.specs.declared.tag.TagLook.{TagLook}
-use Rattle.capi.specs.Memory.{workerIn, Called}
+use Rattle.capi.specs.Memory.{sizeCheck, workerIn, Called}
 use Rattle.checks.specs.Calls.{tierCheck, loadCheck, writeCheck}
 use Rattle.capi.specs.Calls.{tiered, loaded, wrote, halted, answerOf, Stepped}
-use Rattle.checks.specs.Creation.{Setup, creationCheck}
-use Rattle.capi.specs.Creation.{freshWorker}
+use Rattle.checks.specs.Creation.{Setup}
+use Rattle.capi.specs.Creation.{creationAnswer, freshWorker, Created}
 use Rattle.capi.specs.Looks.{stateLook, statsLook, countsLook, groupCells, groupCount, groupCheck, tableCount, tableCheck, panelBytes, panelCount, panelCode, tagLook}
 use Rattle.capi.proofs.creation.wz_create.Reads as create-contract
 use Rattle.capi.proofs.calls.wz_set_tier.Reads as tier-contract
@@ -46,26 +46,30 @@ use Rattle.capi.proofs.looks.wz_tag.Reads as tag-contract
 -- A call whose checks came to n: memory of another length is answered with 100; otherwise the answer is n, and where it is 0 the memory holds the engine W;
 -- where it is not 0 every byte is as it was.
 pub called-said : (old new : List ℕ) (r n : ℕ) (W : Worker) → Called old new r n W
-    → ((length old ≡ 38400 → ⊥) → r ≡ 100) × (length old ≡ 38400 → r ≡ n) × (length old ≡ 38400 → n ≡ 0 → workerIn new ≡ W)
+    → ((sizeCheck (length old) ≡ 0 → ⊥) → r ≡ 100) × (sizeCheck (length old) ≡ 0 → r ≡ n) × (sizeCheck (length old) ≡ 0 → n ≡ 0 → workerIn new ≡ W)
     × ((r ≡ 0 → ⊥) → new ≡ old) × (length new ≡ length old)
 called-said old new r n W h = (h .alien, h .code, h .done, h .kept, h .long)
 
+-- Creation: the answer by the number of names, the length of the memory and the checks; where it is 0 the memory holds a fresh engine, and where it is not every byte is as it was.
+pub created-said : (old new : List ℕ) (r : ℕ) (s : Setup) → Created old new r s
+    → (r ≡ creationAnswer s (length old)) × (r ≡ 0 → workerIn new ≡ freshWorker s) × ((r ≡ 0 → ⊥) → new ≡ old) × (length new ≡ length old)
+created-said old new r s h = (h .code, h .done, h .kept, h .long)
+
 -- The same of a step that came to T, with its lent list: the first bytes are T's, all behind them are as they were.
 pub stepped-said : (old new : List ℕ) (r : Reply) (out out' : List ℕ) (T : Told) → Stepped old new r out out' T
-    → ((length old ≡ 38400 → ⊥) → r ≡ reply.refused 100) × (length old ≡ 38400 → r ≡ T .reply) × (length old ≡ 38400 → workerIn new ≡ T .left)
-    × (length old ≡ 38400 → out' ≡ wroteAll out (T .cells)) × ((r .code ≡ 0 → ⊥) → (new ≡ old) × (out' ≡ out)) × (length new ≡ length old)
+    → ((sizeCheck (length old) ≡ 0 → ⊥) → r ≡ reply.refused 100) × (sizeCheck (length old) ≡ 0 → r ≡ T .reply) × (sizeCheck (length old) ≡ 0 → workerIn new ≡ T .left)
+    × (sizeCheck (length old) ≡ 0 → out' ≡ wroteAll out (T .bytes)) × ((r .code ≡ 0 → ⊥) → (new ≡ old) × (out' ≡ out)) × (length new ≡ length old)
 stepped-said old new r out out' T h = (h .alien, h .reply-is, h .left-is, h .out-is, h .kept, h .long)
 
 -- ---- calls
 
-abbrev setup : List ℕ → List ℕ → Float → Float → Float → List ℕ → List ℕ → Setup
-setup names ends cycle period grace settings groups = record { names = names; ends = ends; options = record { cycle = cycle; period = period; grace = grace }; settings = settings; groups = groups }
+abbrev setup : List ℕ → List ℕ → Options → List ℕ → List ℕ → Setup
+setup names ends options settings groups = record { names = names; ends = ends; options = options; settings = settings; groups = groups }
 
-pub create-said : (κs : Lfts 4) (mem mem' names ends settings groups : RefT (List ℕ)) (cycle period grace : Float) (r : ℕ)
-    → create-contract.Learnt κs (mem, (names, (ends, (cycle, (period, (grace, (settings, (groups, tt)))))))) r (mem', (names, (ends, (cycle, (period, (grace, (settings, (groups, tt))))))))
-    → Called (mem .now) (mem' .now) r (creationCheck (setup (names .now) (ends .now) cycle period grace (settings .now) (groups .now)))
-    (freshWorker (setup (names .now) (ends .now) cycle period grace (settings .now) (groups .now)))
-create-said κs mem mem' names ends settings groups cycle period grace r h = h
+pub create-said : (κs : Lfts 4) (mem mem' names ends settings groups : RefT (List ℕ)) (options : Options) (r : ℕ)
+    → create-contract.Learnt κs (mem, (names, (ends, (options, (settings, (groups, tt)))))) r (mem', (names, (ends, (options, (settings, (groups, tt))))))
+    → Created (mem .now) (mem' .now) r (setup (names .now) (ends .now) options (settings .now) (groups .now))
+create-said κs mem mem' names ends settings groups options r h = h
 
 pub tier-said : (κs : Lfts 1) (mem mem' : RefT (List ℕ)) (clock : Float) (tag to r : ℕ) → tier-contract.Learnt κs (mem, (clock, (tag, (to, tt)))) r (mem', (clock, (tag, (to, tt))))
     → Called (mem .now) (mem' .now) r (tierCheck (workerIn (mem .now)) clock tag to) (tiered (workerIn (mem .now)) clock tag to)

@@ -9,8 +9,8 @@ use lib.ListN.{length}
 use Rattle.values.specs.declared.value.Value.{Value}
 use Rattle.tiers.specs.Tiers.{setTier}
 use Rattle.panel.specs.Panel.{loadedList}
-use Rattle.writes.specs.Queue.{queuedWith}
-use Rattle.writes.specs.declared.queue.Write.{Write}
+use Rattle.queue.specs.Queue.{queuedWith}
+use Rattle.queue.specs.declared.Write.{Write}
 use Rattle.heads.specs.Link.{stopped}
 use Rattle.engine.specs.Engine.{withClock}
 use Rattle.lent.specs.Lent.{wroteAll}
@@ -20,7 +20,7 @@ use Rattle.replies.specs.Worker.{Worker, Told, worker, withBoard, linked}
 use Rattle.replies.specs.declared.reply.Reply.{Reply}
 use Rattle.replies.specs.declared.reply.Said.{Said}
 use Rattle.worker.specs.Answers.{Answer}
-use Rattle.capi.specs.Memory.{memorySize, notAnEngine, workerIn}
+use Rattle.capi.specs.Memory.{IsEngine, notAnEngine, workerIn}
 
 -- Rule 5: a tier call that is accepted
 abbrev pub tiered : Worker → Float → ℕ → ℕ → Worker
@@ -50,14 +50,14 @@ pub record SteppedBoard (T : Told) (s : Said) (old new out out' : List ℕ) : Ty
   pub head-is : s .head ≡ T .left .head
   pub board-is : workerIn new .board ≡ T .left .board
   pub reply-is : s .reply ≡ T .reply
-  pub out-is : out' ≡ wroteAll out (T .cells)
+  pub out-is : out' ≡ wroteAll out (T .bytes)
   pub kept : eqb (s .reply .code) 0 ≡ false → (new ≡ old) × (out' ≡ out)
 
 -- A step that came to T. A refusal writes nothing. Memory keeps its length.
 pub record Stepped (old new : List ℕ) (r : Reply) (out out' : List ℕ) (T : Told) : Type 0 where
-  pub alien : (length old ≡ memorySize → ⊥) → r ≡ reply.refused notAnEngine
-  pub reply-is : length old ≡ memorySize → r ≡ T .reply
-  pub left-is : length old ≡ memorySize → workerIn new ≡ T .left
-  pub out-is : length old ≡ memorySize → out' ≡ wroteAll out (T .cells)
+  pub alien : (IsEngine old → ⊥) → r ≡ reply.refused notAnEngine
+  pub reply-is : IsEngine old → r ≡ T .reply
+  pub left-is : IsEngine old → workerIn new ≡ T .left
+  pub out-is : IsEngine old → out' ≡ wroteAll out (T .bytes)
   pub kept : (r .code ≡ 0 → ⊥) → (new ≡ old) × (out' ≡ out)
   pub long : length new ≡ length old

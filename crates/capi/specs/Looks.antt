@@ -4,6 +4,8 @@ use mathlib.Core.List.{List}
 use Prim.Native.Nat.{ℕ, _/_}
 use lib.Dec.{eqb}
 use lib.ListN.{length}
+use Rattle.names.specs.Directory.{maxNames}
+use Rattle.panel.specs.Panel.{panelRoom}
 use Rattle.replies.specs.Worker.{Worker}
 use Rattle.shown.specs.Looks as shown
 use Rattle.shown.specs.Looks.{stateOf, noState, statsOf, noStats, countsOf, noCounts, shortOf, noLook, tagFound}
@@ -11,10 +13,10 @@ use Rattle.shown.specs.declared.head.StateLook.{StateLook}
 use Rattle.shown.specs.declared.head.StatsLook.{StatsLook}
 use Rattle.shown.specs.declared.counts.CountsLook.{CountsLook}
 use Rattle.shown.specs.declared.tag.TagLook.{TagLook}
-use Rattle.capi.specs.Memory.{memorySize, notAnEngine, workerIn}
+use Rattle.capi.specs.Memory.{sizeCheck, notAnEngine, workerIn}
 
 abbrev pub isEngine : List ℕ → Bool
-isEngine mem = eqb (length mem) memorySize
+isEngine mem = eqb (sizeCheck (length mem)) 0
 
 unfoldable pub stateLook : List ℕ → StateLook
 stateLook mem = cond (isEngine mem) (stateOf (workerIn mem .head .link)) (noState notAnEngine)
@@ -43,14 +45,14 @@ groupCount W out = shown.groupCount (W .board) out
 abbrev pub groupCheck : List ℕ → List ℕ → ℕ
 groupCheck mem out = roomCheck mem (length out / 40) 16
 
--- the table in table order; as many places are asked for as there are tags at most
+-- the table in table order; a place for every name that a directory can have is asked for
 abbrev pub tableCount : Worker → List ℕ → ℕ
 tableCount W out = shown.tableCount (W .board) out
 
 abbrev pub tableCheck : List ℕ → List ℕ → ℕ
-tableCheck mem out = roomCheck mem (length out / 16) (length (workerIn mem .board .table .tags))
+tableCheck mem out = roomCheck mem (length out / 16) maxNames
 
--- Rule 11: the panel list; the room asked for is that of a list of all tags
+-- Rule 11: the panel list; the room asked for is that of a list of as many tags as a directory can have
 abbrev pub panelBytes : Worker → List ℕ
 panelBytes W = shown.panelBytes (W .board)
 
@@ -58,7 +60,7 @@ abbrev pub panelCount : Worker → List ℕ → ℕ
 panelCount W out = shown.panelCount (W .board) out
 
 abbrev pub panelCode : List ℕ → List ℕ → ℕ
-panelCode mem out = roomCheck mem (length out) 241
+panelCode mem out = roomCheck mem (length out) (panelRoom maxNames)
 
 -- ---- a tag
 

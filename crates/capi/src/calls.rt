@@ -6,7 +6,6 @@ ghost use Rattle.worker.specs.Answers.{step};
 ghost use Rattle.capi.specs.Memory.{workerIn, Called};
 ghost use Rattle.checks.specs.Calls.{tierCheck, loadCheck, writeCheck};
 ghost use Rattle.capi.specs.Calls.{tiered, loaded, wrote, halted, answerOf, Stepped};
-use super::whole::MEMORY;
 use super::whole::NOT_AN_ENGINE;
 use super::whole::head_of;
 use super::whole::load_check;
@@ -15,21 +14,22 @@ use super::whole::push_write;
 use super::whole::put_clock;
 use super::whole::put_head;
 use super::whole::set_tier;
+use super::whole::size_check;
 use super::whole::write_check;
 use checks::calls::tier_check;
 use engine::with_link;
 use heads::link::stopped;
+use queue::Write;
 use replies::reply::Reply;
 use words::value::value_from;
 use worker::checks::Answer;
-use writes::queue::Write;
 
 // A tier call.
 #[no_mangle]
 pub extern "C" fn wz_set_tier(mem: &mut [u8], clock: f64, tag: u32, tier: u32) -> u32
     ensures { λ r. ⌜ Called (now (mem .entry)) (now (mem .exit)) r (tierCheck (workerIn (now (mem .entry))) clock tag tier) (tiered (workerIn (now (mem .entry))) clock tag tier) ⌝ }
 {
-    if mem.len() != MEMORY {
+    if size_check(mem.len()) != 0 {
         return NOT_AN_ENGINE;
     }
     let e = head_of(mem);
@@ -48,7 +48,7 @@ pub extern "C" fn wz_set_tier(mem: &mut [u8], clock: f64, tag: u32, tier: u32) -
 pub extern "C" fn wz_load(mem: &mut [u8], clock: f64, list: &[u8]) -> u32
     ensures { λ r. ⌜ Called (now (mem .entry)) (now (mem .exit)) r (loadCheck (workerIn (now (mem .entry))) clock (now (list .entry))) (loaded (workerIn (now (mem .entry))) clock (now (list .entry))) ⌝ }
 {
-    if mem.len() != MEMORY {
+    if size_check(mem.len()) != 0 {
         return NOT_AN_ENGINE;
     }
     let e = head_of(mem);
@@ -67,7 +67,7 @@ pub extern "C" fn wz_load(mem: &mut [u8], clock: f64, list: &[u8]) -> u32
 pub extern "C" fn wz_write(mem: &mut [u8], tag: u32, kind: u64, word: u64) -> u32
     ensures { λ r. ⌜ Called (now (mem .entry)) (now (mem .exit)) r (writeCheck (workerIn (now (mem .entry))) tag (valueFrom kind word)) (wrote (workerIn (now (mem .entry))) tag (valueFrom kind word)) ⌝ }
 {
-    if mem.len() != MEMORY {
+    if size_check(mem.len()) != 0 {
         return NOT_AN_ENGINE;
     }
     let value = value_from(kind, word);
@@ -88,7 +88,7 @@ pub extern "C" fn wz_write(mem: &mut [u8], tag: u32, kind: u64, word: u64) -> u3
 pub extern "C" fn wz_stop(mem: &mut [u8]) -> u32
     ensures { λ r. ⌜ Called (now (mem .entry)) (now (mem .exit)) r 0 (halted (workerIn (now (mem .entry)))) ⌝ }
 {
-    if mem.len() != MEMORY {
+    if size_check(mem.len()) != 0 {
         return NOT_AN_ENGINE;
     }
     let e = head_of(mem);
@@ -112,8 +112,8 @@ pub extern "C" fn wz_step(
 ) -> Reply
     ensures { λ r. ⌜ Stepped (now (mem .entry)) (now (mem .exit)) r (now (out .entry)) (now (out .exit)) (step (workerIn (now (mem .entry))) (at clock wall) (answerOf kind number message (now (list .entry))) (length (now (out .entry)))) ⌝ }
 {
-    if mem.len() != MEMORY {
-        return Reply::refused(100);
+    if size_check(mem.len()) != 0 {
+        return Reply::refused(NOT_AN_ENGINE as u64);
     }
     let e = head_of(mem);
     let a = Answer {

@@ -1,16 +1,28 @@
 // Rule 11: the panel list.
+ghost use Rattle.board.specs.Layout.{IsBoard};
+use board::parts::order_of;
+use board::parts::table_of;
+use given::boards::SIX;
+use given::boards::plain;
 use given::print::bytes;
 use given::print::number;
 use given::print::text;
 use panel::check::check_panel;
 use panel::load::load_panel;
-use panel::write::write_panel;
 use tiers::grace::set_tier;
 
 // A tier call with a grace of 3 seconds.
-fn enter(table: &mut [u8], order: &mut [u8], graces: &mut [u8], k: u16, tier: u8, clock: f64) {
-    let words = [0u8; 6];
-    set_tier(table, order, graces, &words, k, tier, 3.0, clock);
+fn enter(b: &mut [u8], k: u16, tier: u8, clock: f64)
+    requires { ⌜ IsBoard (now b) ⌝ }
+    ensures { λ _. ⌜ IsBoard (now (b .exit)) ⌝ }
+{
+    set_tier(b, k, tier, 3.0, clock);
+}
+
+fn write(b: &[u8], list: &mut [u8]) -> usize
+    requires { ⌜ IsBoard (now b) ⌝ }
+{
+    panel::write::write_panel(table_of(b), order_of(b), list)
 }
 
 // A directory of three names.
@@ -20,36 +32,33 @@ fn check(label: &[u8], list: &[u8]) {
 
 // The list loaded into an empty table, and written again.
 fn load(label: &[u8], list: &[u8]) {
-    let mut table = [0u8; 768];
-    let mut order = [0u8; 16];
-    let mut graces = [0u8; 16];
+    let mut b = [0u8; SIX];
     let mut again = [0u8; 7];
-    load_panel(
-        &mut table,
-        &mut order,
-        &mut graces,
-        &[0u8; 6],
-        list,
-        3.0,
-        2.0,
-    );
-    write_panel(&table, &order, &mut again);
+    plain(&mut b);
+    load_panel(&mut b, list, 3.0, 2.0);
+    write(&b, &mut again);
     bytes(label, &again);
 }
 
 // The tags 2, 0 and 1 enter in this order. Then 2 leaves tier 1, and is in grace.
+fn enter_three(b: &mut [u8])
+    requires { ⌜ IsBoard (now b) ⌝ }
+    ensures { λ _. ⌜ IsBoard (now (b .exit)) ⌝ }
+{
+    enter(b, 2, 1, 0.0);
+    enter(b, 0, 3, 0.0);
+    enter(b, 1, 1, 0.0);
+    enter(b, 2, 0, 1.0);
+}
+
 fn write_and_load() {
-    let mut table = [0u8; 768];
-    let mut order = [0u8; 16];
-    let mut graces = [0u8; 16];
+    let mut b = [0u8; SIX];
     let mut list = [0u8; 7];
-    enter(&mut table, &mut order, &mut graces, 2, 1, 0.0);
-    enter(&mut table, &mut order, &mut graces, 0, 3, 0.0);
-    enter(&mut table, &mut order, &mut graces, 1, 1, 0.0);
-    enter(&mut table, &mut order, &mut graces, 2, 0, 1.0);
+    plain(&mut b);
+    enter_three(&mut b);
     number(
         b"\n2 in grace, 0 in tier 3, 1 in tier 1, written in ",
-        write_panel(&table, &order, &mut list) as u64,
+        write(&b, &mut list) as u64,
     );
     bytes(b" bytes:", &list);
     check(b"\nchecked: ", &list);

@@ -116,11 +116,11 @@ error-small (Is x) f = (kind-small (x .kind) (f .0), omega (arith, f .1))
 
 pub cells-small : (h : Held) → Fit h → Below (2 ^ 64) (entryCells h)
 unfolding entryWordsOf
-cells-small Nothing f = (omega arith, (omega arith, (omega arith, (omega arith, (omega arith, (omega arith, tt))))))
+cells-small Nothing f = (omega arith, (omega arith, (omega arith, (omega arith, (omega arith, (omega arith, (omega arith, (omega arith, tt))))))))
 cells-small (Has e) f =
     let v = value-small (e .value) (f .0) in
     let x = error-small (e .error) (f .2) in
-    (quality-small (e .quality), (v .0, (v .1, (fits-ofZ (f .1) .fits, (x .0, (x .1, tt))))))
+    (quality-small (e .quality), (v .0, (v .1, (fits-ofZ (f .1) .fits, (x .0, (x .1, (omega arith, (omega arith, tt))))))))
 
 -- ---- words of 64 bits hold such entries
 
@@ -185,4 +185,4 @@ row-small bs k j h = go (ltb k (length bs / 256)) refl
 pub table-fit : (bs : List ℕ) (k : ℕ) → Fit (getD (tableIn bs) k freshTag .published)
 unfolding tagFrom
 table-fit bs k =
-    rw (table-at bs k) (held-fit (entryWordsAt (getD (rowsIn bs) k noRow) 22) (row-small bs k 24 (omega arith)) (row-small bs k 25 (omega arith)))
+    rw (table-at bs k) (held-fit (entryWordsAt (getD (rowsIn bs) k noRow) 24) (row-small bs k 26 (omega arith)) (row-small bs k 27 (omega arith)))

@@ -26,21 +26,21 @@ unfolding changesFrom
 length-changes cells zero = refl
 length-changes cells (suc n) = length-append (changesFrom cells n) (changeIn cells n ∷ []) ∙ ap (λ (m : ℕ). m + 1) (length-changes cells n) ∙ add-one n
 
--- the change that seven cells read make
+-- the change that the cells read make
 pub change-read : (cells : List ℕ) (i tag held kind word t error message : ℕ)
-    → tag ≡ getD cells (7 * i) 0 → held ≡ getD cells (7 * i + 1) 0 → kind ≡ getD cells (7 * i + 2) 0 → word ≡ getD cells (7 * i + 3) 0
-    → t ≡ getD cells (7 * i + 4) 0 → error ≡ getD cells (7 * i + 5) 0 → message ≡ getD cells (7 * i + 6) 0
+    → tag ≡ getD cells (9 * i) 0 → held ≡ getD cells (9 * i + 1) 0 → kind ≡ getD cells (9 * i + 2) 0 → word ≡ getD cells (9 * i + 3) 0
+    → t ≡ getD cells (9 * i + 4) 0 → error ≡ getD cells (9 * i + 5) 0 → message ≡ getD cells (9 * i + 6) 0
     → _≡_ {A = Change} (record { tag = tag % 65536; entry = entryFrom (record { held = held; kind = kind; word = word; t = t; error = error; message = message }) }) (changeIn cells i)
 unfolding changeIn
 change-read cells i tag held kind word t error message a b c d e f g =
     let at : (j k : ℕ) → j ≡ k → getD cells j 0 ≡ getD cells k 0 = λ j k p. ap (λ (m : ℕ). getD cells m 0) p in
-    rw (a, b, c ∙ at (7 * i + 2) (7 * i + 1 + 1) (omega arith), d ∙ at (7 * i + 3) (7 * i + 1 + 2) (omega arith), e ∙ at (7 * i + 4) (7 * i + 1 + 3) (omega arith), f ∙ at (7 * i + 5) (7 * i + 1 + 4) (omega arith), g ∙ at (7 * i + 6) (7 * i + 1 + 5) (omega arith))
+    rw (a, b, c ∙ at (9 * i + 2) (9 * i + 1 + 1) (omega arith), d ∙ at (9 * i + 3) (9 * i + 1 + 2) (omega arith), e ∙ at (9 * i + 4) (9 * i + 1 + 3) (omega arith), f ∙ at (9 * i + 5) (9 * i + 1 + 4) (omega arith), g ∙ at (9 * i + 6) (9 * i + 1 + 5) (omega arith))
 
 -- all of them, as the first of them
 pub told-whole : (list : List ℕ) (n : ℕ) → take (min n maxNames) (told list n) ≡ told list n
 told-whole list n = take-all (min n maxNames) (told list n) (omega (arith, length-changes (cellsIn list) (min n maxNames)))
 
--- record i is the change of cells 7i to 7i + 6
+-- record i is the change of cells 9i to 9i + 8
 changes-at : (cells : List ℕ) (n i : ℕ) (d : Change) → i < n → getD (changesFrom cells n) i d ≡ changeIn cells i
 unfolding changesFrom
 changes-at cells zero i d h = absurd (not-suc-le-zero h)

@@ -19,9 +19,9 @@ use Rattle.words.specs.Entry.{entryFrom, heldWordsOf}
 use Rattle.table.specs.Tag.{freshTag}
 use Rattle.table.specs.Table.{tableIn}
 use Rattle.table.specs.declared.tag.Tag.{Tag}
-use Rattle.lent.specs.Lent.{wroteCells, wroteAll, records}
-use Rattle.lent.specs.Changes.{changeCells}
-use Rattle.lent.proofs.LentLaws.{wrote-none, wrote-length, put-next, cell-stored, all-fits, length-records}
+use Rattle.lent.specs.Lent.{cellBytes, overBytes, wroteAll, records}
+use Rattle.lent.specs.Changes.{changeCells, changeSize}
+use Rattle.lent.proofs.LentLaws.{wrote-none, wrote-length, put-next, cell-stored, cells-fit, length-records}
 use Rattle.runs.specs.Run.{over}
 use Rattle.runs.proofs.Rows.{over-next}
 use Rattle.changes.specs.declared.Change.{Change}
@@ -37,28 +37,28 @@ below-at n (x ∷ l) (suc i) b h = below-at n l i (b .1) (le-of-suc-le-suc h)
 -- ---- the cells of a list that cells were written into
 
 module _ (out cells : List ℕ) (small : Below (2 ^ 64) cells) (room : 8 * length cells ≤ length out) where
-  wrote-first : (n : ℕ) → n ≤ length cells → cellsIn (wroteCells out (take n cells)) ≡ over n cells (cellsIn out)
+  wrote-first : (n : ℕ) → n ≤ length cells → cellsIn (overBytes out (cellBytes (take n cells))) ≡ over n cells (cellsIn out)
   wrote-first zero h = ap cellsIn (wrote-none out)
   wrote-first (suc n) h =
       let front = take n cells in
       let v = getD cells n 0 in
       let long : length front ≡ n = length-take-le n cells (omega arith) in
-      let size : length (wroteCells out front) ≡ length out = wrote-length out front in
-      let within : length front < length (wroteCells out front) / 8 = omega (arith, long, size) in
-      ap (λ (l : List ℕ). cellsIn (wroteCells out l)) (take-suc cells n 0 h)
+      let size : length (overBytes out (cellBytes front)) ≡ length out = wrote-length out front in
+      let within : length front < length (overBytes out (cellBytes front)) / 8 = omega (arith, long, size) in
+      ap (λ (l : List ℕ). cellsIn (overBytes out (cellBytes l))) (take-suc cells n 0 h)
       ∙ ap cellsIn (sym (put-next out front v (omega (arith, long))))
-      ∙ ap cellsIn (sym (cell-stored (wroteCells out front) (length front) v within))
-      ∙ cells-put (wroteCells out front) (length front) v (below-at (2 ^ 64) cells n small h) within
-      ∙ ap (λ (j : ℕ). set (cellsIn (wroteCells out front)) j v) long
+      ∙ ap cellsIn (sym (cell-stored (overBytes out (cellBytes front)) (length front) v within))
+      ∙ cells-put (overBytes out (cellBytes front)) (length front) v (below-at (2 ^ 64) cells n small h) within
+      ∙ ap (λ (j : ℕ). set (cellsIn (overBytes out (cellBytes front))) j v) long
       ∙ ap (λ (l : List ℕ). set l n v) (wrote-first n (omega arith))
       ∙ over-next n 0 cells (cellsIn out) h (omega (arith, length-cells out))
       ∙ ap (λ (j : ℕ). over j cells (cellsIn out)) (add-one n)
 
-  pub wrote-cells : cellsIn (wroteAll out cells) ≡ cells ++ drop (length cells) (cellsIn out)
+  pub wrote-cells : cellsIn (wroteAll out (cellBytes cells)) ≡ cells ++ drop (length cells) (cellsIn out)
   wrote-cells =
       let whole = take-all (length cells) cells (omega arith) in
-      ap cellsIn (all-fits out cells room)
-      ∙ ap (λ (l : List ℕ). cellsIn (wroteCells out l)) (sym whole)
+      ap cellsIn (cells-fit out cells room)
+      ∙ ap (λ (l : List ℕ). cellsIn (overBytes out (cellBytes l))) (sym whole)
       ∙ wrote-first (length cells) (omega arith)
       ∙ ap (λ (l : List ℕ). l ++ drop (length cells) (cellsIn out)) whole
 
@@ -66,20 +66,20 @@ module _ (out cells : List ℕ) (small : Below (2 ^ 64) cells) (room : 8 * lengt
 
 module _ (tags : List Tag) where
   -- cell j of record i
-  cell-of : (ks rest : List ℕ) (i j : ℕ) → i < length ks → j < 7 → getD (records (changeCells tags) ks ++ rest) (7 * i + j) 0 ≡ getD (changeCells tags (getD ks i 0)) j 0
+  cell-of : (ks rest : List ℕ) (i j : ℕ) → i < length ks → j < 9 → getD (records (changeCells tags) ks ++ rest) (9 * i + j) 0 ≡ getD (changeCells tags (getD ks i 0)) j 0
   unfolding records
   cell-of [] rest i j h l = absurd (not-suc-le-zero h)
   cell-of (k ∷ ks) rest zero j h l =
       let cells = changeCells tags k in
       let more = records (changeCells tags) ks in
-      let index : 7 * 0 + j ≡ j = omega arith in
+      let index : 9 * 0 + j ≡ j = omega arith in
       ap (λ (m : ℕ). getD ((cells ++ more) ++ rest) m 0) index
       ∙ List·getD-append (cells ++ more) rest 0 j (omega (arith, length-append cells more))
       ∙ List·getD-append cells more 0 j (omega arith)
   cell-of (k ∷ ks) rest (suc i) j h l =
       let run = records (changeCells tags) (k ∷ ks) ++ rest in
-      let index : 7 * suc i + j ≡ 7 + (7 * i + j) = omega arith in
-      ap (λ (m : ℕ). getD run m 0) index ∙ sym (getD-drop 7 run (7 * i + j) 0) ∙ cell-of ks rest i j (le-of-suc-le-suc h) l
+      let index : 9 * suc i + j ≡ 9 + (9 * i + j) = omega arith in
+      ap (λ (m : ℕ). getD run m 0) index ∙ sym (getD-drop 9 run (9 * i + j) 0) ∙ cell-of ks rest i j (le-of-suc-le-suc h) l
 
   module _ (fit : (k : ℕ) → Fit (getD tags k freshTag .published)) where
     change-told : (ks rest : List ℕ) (i : ℕ) → Below 65536 ks → i < length ks → changeIn (records (changeCells tags) ks ++ rest) i ≡ changeOf tags (getD ks i 0)
@@ -87,8 +87,8 @@ module _ (tags : List Tag) where
         let k = getD ks i 0 in
         let held = getD tags k freshTag .published in
         let w = heldWordsOf held in
-        let at : (j : ℕ) → j < 7 → getD (changeCells tags k) j 0 ≡ getD (records (changeCells tags) ks ++ rest) (7 * i + j) 0 = λ j l. sym (cell-of ks rest i j h l) in
-        let start : 7 * i + 0 ≡ 7 * i = omega arith in
+        let at : (j : ℕ) → j < 9 → getD (changeCells tags k) j 0 ≡ getD (records (changeCells tags) ks ++ rest) (9 * i + j) 0 = λ j l. sym (cell-of ks rest i j h l) in
+        let start : 9 * i + 0 ≡ 9 * i = omega arith in
         sym (change-read (records (changeCells tags) ks ++ rest) i k (w .held) (w .kind) (w .word) (w .t) (w .error) (w .message)
         (at 0 (omega arith) ∙ ap (λ (m : ℕ). getD (records (changeCells tags) ks ++ rest) m 0) start)
         (at 1 (omega arith)) (at 2 (omega arith)) (at 3 (omega arith)) (at 4 (omega arith)) (at 5 (omega arith)) (at 6 (omega arith)))
@@ -114,23 +114,23 @@ module _ (tags : List Tag) where
         (run-small ks (below .1))
 
     -- what is read of a list into which the changes of the tags ks were written
-    pub told-of : (ks out : List ℕ) → Below 65536 ks → length ks ≤ maxNames → 56 * length ks ≤ length out
-        → told (wroteAll out (records (changeCells tags) ks)) (length ks) ≡ map (changeOf tags) ks
+    pub told-of : (ks out : List ℕ) → Below 65536 ks → length ks ≤ maxNames → changeSize * length ks ≤ length out
+        → told (wroteAll out (cellBytes (records (changeCells tags) ks))) (length ks) ≡ map (changeOf tags) ks
     told-of ks out below few room =
         let cells = records (changeCells tags) ks in
-        let long : length cells ≡ 7 * length ks = length-records (changeCells tags) 7 (λ k. refl) ks in
+        let long : length cells ≡ 9 * length ks = length-records (changeCells tags) 9 (λ k. refl) ks in
         let least : min (length ks) maxNames ≡ length ks = omega arith in
-        ap (changesFrom (cellsIn (wroteAll out cells))) least
+        ap (changesFrom (cellsIn (wroteAll out (cellBytes cells)))) least
         ∙ ap (λ (l : List ℕ). changesFrom l (length ks)) (wrote-cells out cells (run-small ks below) (omega (arith, long)))
         ∙ changes-told ks (drop (length cells) (cellsIn out)) (length ks) below (omega arith)
         ∙ ap (map (changeOf tags)) (take-all (length ks) ks (omega arith))
 
 -- the same of a table in memory, whatever its bytes
-pub told-exact : (table ks out : List ℕ) → Below 65536 ks → length ks ≤ maxNames → 56 * length ks ≤ length out
-    → told (wroteAll out (records (changeCells (tableIn table)) ks)) (length ks) ≡ map (changeOf (tableIn table)) ks
+pub told-exact : (table ks out : List ℕ) → Below 65536 ks → length ks ≤ maxNames → changeSize * length ks ≤ length out
+    → told (wroteAll out (cellBytes (records (changeCells (tableIn table)) ks))) (length ks) ≡ map (changeOf (tableIn table)) ks
 told-exact table ks out below few room = told-of (tableIn table) (table-fit table) ks out below few room
 
 -- the same of a list of tags in memory, as `lent::changes::put_changes` leaves it
-pub told-put : (table list out : List ℕ) → length (listIn list) ≤ maxNames → 56 * length (listIn list) ≤ length out
-    → told (wroteAll out (records (changeCells (tableIn table)) (listIn list))) (length (listIn list)) ≡ map (changeOf (tableIn table)) (listIn list)
+pub told-put : (table list out : List ℕ) → length (listIn list) ≤ maxNames → changeSize * length (listIn list) ≤ length out
+    → told (wroteAll out (cellBytes (records (changeCells (tableIn table)) (listIn list)))) (length (listIn list)) ≡ map (changeOf (tableIn table)) (listIn list)
 told-put table list out few room = told-exact table (listIn list) out (list-below list) few room

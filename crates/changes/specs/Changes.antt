@@ -1,4 +1,4 @@
--- The changes that a list of cells holds, seven cells each, as `lent` writes them.
+-- The changes that a list of cells holds, nine cells each, as `lent` writes them.
 use mathlib.Core.List.{List, [], _∷_, _++_}
 use Prim.Native.Nat.{ℕ, zero, suc, _+_, _*_, _%_, min}
 use lib.IntN.{pos}
@@ -34,9 +34,9 @@ entryOf (Has e) = e
 abbrev pub changeOf : List Tag → ℕ → Change
 changeOf tags k = record { tag = k; entry = entryOf (getD tags k freshTag .published) }
 
--- change i: the tag in cell 7i, and the entry whose words the six cells after it are
+-- change i: the tag in cell 9i, and the entry whose words the six cells after it are; the last two are not read
 unfoldable pub changeIn : List ℕ → ℕ → Change
-changeIn cells i = record { tag = getD cells (7 * i) 0 % 65536; entry = entryFrom (entryWordsAt cells (7 * i + 1)) }
+changeIn cells i = record { tag = getD cells (9 * i) 0 % 65536; entry = entryFrom (entryWordsAt cells (9 * i + 1)) }
 
 -- the first n changes
 unfoldable pub changesFrom : List ℕ → ℕ → List Change

@@ -45,12 +45,12 @@ impl Change {
     }
 }
 
-// The change in cells 7i to 7i + 6 of a list.
+// The change in cells 9i to 9i + 8 of a list.
 fn change_in(list: &[u8], i: usize) -> Change
     requires { ⌜ i < maxNames ⌝ }
     ensures { λ r. ⌜ r ≡ changeIn (cellsIn (now (list .entry))) i ⌝ }
 {
-    let p = 7 * i;
+    let p = 9 * i;
     let entry = entry_from(EntryWords {
         held: cell(list, p + 1),
         kind: cell(list, p + 2),
@@ -83,8 +83,8 @@ fn changes_in(list: &[u8], n: usize) -> Told
     }
 }
 
-// The first n of `from` over the first places of `out`; the places past them keep their contents. A run under 120 places
-// is refused (43), and left as it was.
+// The first n of `from` over the first places of `out`; the places past them keep their contents. A run with fewer places
+// than a directory has names at most is refused (43), and left as it was.
 fn fill_changes(out: &mut [Change], from: [Change; MAX_NAMES], n: usize) -> u32
     requires { ⌜ n ≤ maxNames ⌝ }
     ensures { λ r. ⌜ (r ≡ answer maxNames 43 (now (out .entry))) × (now (out .exit) ≡ filled maxNames n from (now (out .entry))) ⌝ }

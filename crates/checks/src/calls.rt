@@ -1,12 +1,11 @@
 // Tier calls, loads and writes.
 ghost use mathlib.Core.Path.{_≡_};
-ghost use lib.ListN.{length};
 ghost use Rattle.board.specs.Board.{Board, boardIn};
 ghost use Rattle.replies.specs.Worker.{worker};
-ghost use Rattle.board.specs.Regions.{boardSize};
+ghost use Rattle.board.specs.Layout.{IsBoard};
 ghost use Rattle.checks.specs.Calls.{clockCheck, tierCheck, loadCheck, writeCheck};
-use board::calls::in_tiers;
-use board::queue::queued;
+use board::tag_lists::order_count;
+use board::waiting::queued;
 use engine::Engine;
 use heads::link::State;
 use heads::link::is_state;
@@ -43,7 +42,7 @@ pub fn tier_check(e: Engine, clock: f64, tag: u32, tier: u32) -> u32
 }
 
 pub fn load_check(board: &[u8], e: Engine, clock: f64, list: &[u8]) -> u32
-    requires { ⌜ length (now board) ≡ boardSize ⌝ }
+    requires { ⌜ IsBoard (now board) ⌝ }
     ensures { λ r. ⌜ r ≡ loadCheck (worker e (boardIn (now (board .entry)))) clock (now (list .entry)) ⌝ }
 {
     let n = clock_check(e, clock);
@@ -54,14 +53,14 @@ pub fn load_check(board: &[u8], e: Engine, clock: f64, list: &[u8]) -> u32
     if m != 0 {
         return m as u32;
     }
-    if in_tiers(board) == 0 {
+    if order_count(board) == 0 {
         return 0;
     }
     56
 }
 
 pub fn write_check(board: &[u8], e: Engine, tag: u32, value: Value) -> u32
-    requires { ⌜ length (now board) ≡ boardSize ⌝ }
+    requires { ⌜ IsBoard (now board) ⌝ }
     ensures { λ r. ⌜ r ≡ writeCheck (worker e (boardIn (now (board .entry)))) tag value ⌝ }
 {
     if e.count as u32 <= tag {

@@ -6,10 +6,10 @@ use Prim.Native.Nat.{ℕ}
 use borrow.Author.Tests.{eq-eqb, ne-eqb}
 use Rattle.lent.specs.Lent.{wroteAll}
 use Rattle.rounds.specs.Round.{Round}
-use Rattle.writes.specs.Queue.{popped, rest}
-use Rattle.writes.specs.declared.queue.Popped.{Popped}
-use Rattle.writes.specs.declared.queue.Popped.the-variants.{Nothing, Is}
-use Rattle.writes.specs.declared.queue.Write.{Write}
+use Rattle.queue.specs.Queue.{popped, rest}
+use Rattle.queue.specs.declared.Popped.{Popped}
+use Rattle.queue.specs.declared.Popped.the-variants.{Nothing, Is}
+use Rattle.queue.specs.declared.Write.{Write}
 use Rattle.board.specs.Board.{Board, boardIn, withQueue}
 use Rattle.replies.specs.declared.reply.Reply.{Reply}
 use Rattle.replies.specs.declared.reply.Said.{Said}
@@ -71,7 +71,7 @@ goes-on T t s r board board' before out out' k d p =
 
 -- the tick is waited for, whatever was worked out
 abbrev pub waits : Told → At → Told
-waits T t = record { left = waiting (T .left) t .left; reply = waiting (T .left) t .reply; cells = []; round = T .round }
+waits T t = record { left = waiting (T .left) t .left; reply = waiting (T .left) t .reply; bytes = []; round = T .round }
 
 pub lastly-stands : (T : Told) (t : At) (s : Said) (board before out : List ℕ) → (s .reply .kind ≡ 0 → ⊥) → Done T s board before out → Done (lastly T t) s board before out
 lastly-stands T t s board before out n d =

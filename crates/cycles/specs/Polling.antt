@@ -5,10 +5,11 @@ use mathlib.Core.Option.{some}
 use Prim.Native.Nat.{ℕ}
 use lib.Ieee.{Float, binary64, round as rounded, sub, le}
 use lib.ListN.{length}
-use Rattle.rounds.specs.Round.{Round}
-use Rattle.writes.specs.Queue.{popped, rest}
-use Rattle.writes.specs.declared.queue.Popped.{Popped}
-use Rattle.writes.specs.declared.queue.Popped.the-variants.{Nothing, Is}
+use Rattle.lent.specs.Lent.{tagBytes}
+use Rattle.rounds.specs.Round.{Round, withPolled, roundOf}
+use Rattle.queue.specs.Queue.{popped, rest}
+use Rattle.queue.specs.declared.Popped.{Popped}
+use Rattle.queue.specs.declared.Popped.the-variants.{Nothing, Is}
 use Rattle.heads.specs.Progress.{withWriting, withRound}
 use Rattle.heads.specs.Stats.{readStats, tailStats}
 use Rattle.heads.specs.declared.progress.After.{After}
@@ -16,8 +17,7 @@ use Rattle.heads.specs.declared.progress.After.the-variants.{Tail, Idle, End}
 use Rattle.heads.specs.declared.progress.Phase.the-variants.{Read, Describe, Version, Wait}
 use Rattle.engine.specs.Engine.{withCycle, withProgress}
 use Rattle.board.specs.Board.{withQueue}
-use Rattle.polls.specs.Polls.{withPolled, roundOf}
-use Rattle.talks.specs.Talks.{describing}
+use Rattle.descriptions.specs.Descriptions.{describing}
 use Rattle.replies.specs.Reply as reply
 use Rattle.replies.specs.Worker.{Worker, At, Told, Done, tell, asks, worker, withBoard, phased, tallied, goesOn}
 use Rattle.replies.specs.declared.reply.Said.{Said}
@@ -73,7 +73,7 @@ unfoldable pub reading : Worker → At → Told
 reading W at =
     let B = describing (W .board) in
     let next = tallied (withBoard W B) (readStats (W .head .stats) (length (W .board .asked))) in
-    cond (isEmpty (B .asked)) (checking next at) (tell (phased next Describe) (reply.describe (length (B .asked))) (B .asked))
+    cond (isEmpty (B .asked)) (checking next at) (tell (phased next Describe) (reply.describe (length (B .asked))) (tagBytes (B .asked)))
 
 -- Rule 6: a round at the clock reading
 abbrev pub roundAt : Worker → At → Round
@@ -85,12 +85,12 @@ withWorked W at R =
     (withPolled (W .board) (R .after) (R .list))
 
 abbrev pub worked : Told → Round → Told
-worked T R = record { left = T .left; reply = T .reply; cells = T .cells; round = some R }
+worked T R = record { left = T .left; reply = T .reply; bytes = T .bytes; round = some R }
 
 unfoldable pub polled : Worker → At → Round → Told
 polled W at R =
     let next = withWorked W at R in
-    worked (cond (isEmpty (R .list)) (reading next at) (tell (phased next Read) (reply.read (length (R .list))) (R .list))) R
+    worked (cond (isEmpty (R .list)) (reading next at) (tell (phased next Read) (reply.read (length (R .list))) (tagBytes (R .list)))) R
 
 -- Rule 9: the next round, unless a stop was asked for; then the writes that wait still go out
 unfoldable pub poll : Worker → At → Told
@@ -99,7 +99,7 @@ poll W at = cond (W .head .link .stopping) (writing W at End) (polled W at (roun
 -- Where an empty round would be followed by another at the same clock reading, its tick is waited for; the ticks of an engine are 0 or at least 0.001 s,
 -- and at cycle 0 every round asks for the version, so that no engine comes to this.
 abbrev pub lastly : Told → At → Told
-lastly T at = cond (goesOn T) (record { left = waiting (T .left) at .left; reply = waiting (T .left) at .reply; cells = []; round = T .round }) T
+lastly T at = cond (goesOn T) (record { left = waiting (T .left) at .left; reply = waiting (T .left) at .reply; bytes = []; round = T .round }) T
 
 -- Rule 9: a step works out one round at most
 unfoldable pub finished : Told → At → Told

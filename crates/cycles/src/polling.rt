@@ -1,13 +1,13 @@
 // Rounds, the writes behind them, and the waits between them.
 ghost use mathlib.Core.Path.{_≡_};
-ghost use lib.ListN.{length};
 ghost use Rattle.board.specs.Board.{Board, boardIn};
-ghost use Rattle.board.specs.Regions.{boardSize};
-use board::request::asked_count;
-use board::request::put_asked;
+ghost use Rattle.board.specs.Layout.{IsBoard};
+use board::tag_lists::asked_count;
+use writes::request::put_asked;
 ghost use Rattle.replies.specs.Worker.{at, worker, Done, Quietly};
 ghost use Rattle.cycles.specs.Polling.{polls, waiting, idle, tail, resume, writing, checking, reading, polled, roundAt, poll, Goes};
-use board::queue::pop_write;
+use board::waiting::pop_write;
+use descriptions::ask_descriptions;
 use engine::Engine;
 use engine::with_cycle;
 use engine::with_progress;
@@ -18,12 +18,12 @@ use heads::progress::with_round;
 use heads::progress::with_writing;
 use heads::stats::read_stats;
 use heads::stats::tail_stats;
+use queue::Popped;
 use replies::losing::ended;
 use replies::losing::phased;
 use replies::reply::Reply;
 use replies::reply::Said;
-use talks::ask_descriptions;
-use writes::queue::Popped;
+use rounds::round::cycle_tags;
 
 // Nothing is told yet: a round is to be worked out.
 pub fn polls(e: Engine) -> Said
@@ -69,7 +69,7 @@ fn tail(e: Engine, clock: f64, wall: i64) -> Said
 
 // The writing has ended, and goes on where it came from.
 fn resume(board: &mut [u8], out: &mut [u8], e: Engine, clock: f64, wall: i64, after: After) -> Said
-    requires { ⌜ length (now board) ≡ boardSize ⌝ }
+    requires { ⌜ IsBoard (now board) ⌝ }
     ensures { λ s. ⌜ Done (resume (worker e (boardIn (now (board .entry)))) (at clock wall) after) s (now (board .exit)) (now (out .entry)) (now (out .exit)) ⌝ }
 {
     match after {
@@ -88,7 +88,7 @@ pub fn writing(
     wall: i64,
     after: After,
 ) -> Said
-    requires { ⌜ length (now board) ≡ boardSize ⌝ }
+    requires { ⌜ IsBoard (now board) ⌝ }
     ensures { λ s. ⌜ Done (writing (worker e (boardIn (now (board .entry)))) (at clock wall) after) s (now (board .exit)) (now (out .entry)) (now (out .exit)) ⌝ }
 {
     let Popped::Is(w) = pop_write(board) else {
@@ -106,7 +106,7 @@ pub fn writing(
 
 // At a boundary the version is asked for.
 pub fn checking(board: &mut [u8], out: &mut [u8], e: Engine, clock: f64, wall: i64) -> Said
-    requires { ⌜ length (now board) ≡ boardSize ⌝ }
+    requires { ⌜ IsBoard (now board) ⌝ }
     ensures { λ s. ⌜ Done (checking (worker e (boardIn (now (board .entry)))) (at clock wall)) s (now (board .exit)) (now (out .entry)) (now (out .exit)) ⌝ }
 {
     let p = e.progress;
@@ -119,7 +119,7 @@ pub fn checking(board: &mut [u8], out: &mut [u8], e: Engine, clock: f64, wall: i
 
 // The round's tags are counted, and the descriptions that are wanted are asked for.
 pub fn reading(board: &mut [u8], out: &mut [u8], e: Engine, clock: f64, wall: i64) -> Said
-    requires { ⌜ length (now board) ≡ boardSize ⌝ }
+    requires { ⌜ IsBoard (now board) ⌝ }
     ensures { λ s. ⌜ Done (reading (worker e (boardIn (now (board .entry)))) (at clock wall)) s (now (board .exit)) (now (out .entry)) (now (out .exit)) ⌝ }
 {
     let tags = asked_count(board);
@@ -136,10 +136,10 @@ pub fn reading(board: &mut [u8], out: &mut [u8], e: Engine, clock: f64, wall: i6
 
 // A round at the clock reading.
 fn polled(board: &mut [u8], out: &mut [u8], e: Engine, clock: f64, wall: i64) -> Said
-    requires { ⌜ length (now board) ≡ boardSize ⌝ }
+    requires { ⌜ IsBoard (now board) ⌝ }
     ensures { λ s. ⌜ Done (polled (worker e (boardIn (now (board .entry)))) (at clock wall) (roundAt (worker e (boardIn (now (board .entry)))) (at clock wall))) s (now (board .exit)) (now (out .entry)) (now (out .exit)) ⌝ }
 {
-    let w = polls::round::poll(board, e.options, e.cycle, clock);
+    let w = cycle_tags(board, e.options, e.cycle, clock);
     let progress = with_round(e.progress, clock, w.tick, w.boundary);
     let cycled = with_cycle(e, w.cycle);
     let next = with_progress(cycled, progress);
@@ -153,7 +153,7 @@ fn polled(board: &mut [u8], out: &mut [u8], e: Engine, clock: f64, wall: i64) ->
 
 // The next round, unless a stop was asked for; then the writes that wait still go out.
 fn poll(board: &mut [u8], out: &mut [u8], e: Engine, clock: f64, wall: i64) -> Said
-    requires { ⌜ length (now board) ≡ boardSize ⌝ }
+    requires { ⌜ IsBoard (now board) ⌝ }
     ensures { λ s. ⌜ Done (poll (worker e (boardIn (now (board .entry)))) (at clock wall)) s (now (board .exit)) (now (out .entry)) (now (out .exit)) ⌝ }
 {
     let link = e.link;
@@ -165,7 +165,7 @@ fn poll(board: &mut [u8], out: &mut [u8], e: Engine, clock: f64, wall: i64) -> S
 
 // What was said stands, or a round is worked out; a step works out one at most.
 pub fn finish(board: &mut [u8], out: &mut [u8], s: Said, clock: f64, wall: i64) -> Said
-    requires { ⌜ length (now board) ≡ boardSize ⌝ }
+    requires { ⌜ IsBoard (now board) ⌝ }
     ensures { λ r. ⌜ Goes s (at clock wall) (now (board .entry)) r (now (board .exit)) (now (out .entry)) (now (out .exit)) ⌝ }
 {
     let said = s.reply;

@@ -1,17 +1,18 @@
 -- Rule 8: descriptions.
 use mathlib.Core.Bool.{Bool, true, false, not, _&&_, cond}
-use mathlib.Core.List.{List, [], _∷_}
+use mathlib.Core.List.{List, [], _∷_, map}
 use Prim.Native.Nat.{ℕ, suc, _-_, _/_, _%_}
 use lib.Dec.{eqb}
 use lib.ListN.{length, getD, set, take}
 use Rattle.lists.specs.Keep.{keep}
+use Rattle.tags.specs.Lists.{fitted}
 use Rattle.memory.specs.Cells.{cellsIn}
 use Rattle.table.specs.Tag.{freshTag}
-use Rattle.table.specs.Table.{withWants, withDescription}
+use Rattle.table.specs.Table.{withWants, withDescription, byRank}
 use Rattle.table.specs.declared.tag.Description.{Description}
 use Rattle.table.specs.declared.tag.Description.the-variants.{Unknown, Nothing, Is}
 use Rattle.table.specs.declared.tag.Tag.{Tag}
-use Rattle.rounds.specs.Added.{byRank}
+use Rattle.board.specs.Board.{Board, withAsked, withRecords}
 
 abbrev pub isUnknown : Description → Bool
 isUnknown Unknown = true
@@ -50,3 +51,7 @@ learnt found asked tags = knownFrom (foundIn found) 0 (take (foundCount found) a
 -- Rule 8: after an answer that failed every tag asked is known to have none.
 abbrev pub learntNone : List ℕ → List Tag → List Tag
 learntNone asked tags = knownFrom (λ (i : ℕ). Nothing) 0 asked tags
+
+-- Rule 8: the descriptions that are wanted are asked for, and the wants are used up
+abbrev pub describing : Board → Board
+describing B = withAsked (withRecords B (map unwanted (B .table .tags))) (fitted (B .askedRoom) (askedTags (B .table .tags)))

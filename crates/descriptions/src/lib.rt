@@ -2,22 +2,27 @@
 ghost use mathlib.Core.Path.{_≡_};
 ghost use mathlib.Core.List.{map};
 ghost use lib.ListN.{getD};
-ghost use Rattle.tags.specs.Lists.{listIn, room};
+ghost use Rattle.tags.specs.Lists.{fitted};
 ghost use Rattle.table.specs.Tag.{freshTag};
 ghost use Rattle.table.specs.Table.{tableIn};
-ghost use Rattle.slices.specs.Room.{fitted};
-ghost use Rattle.descriptions.specs.Descriptions.{isUnknown, isAsked, askedTags, unwanted, foundIn, learnt, learntNone};
+ghost use Rattle.board.specs.Layout.{IsBoard};
+ghost use Rattle.board.specs.Board.{Holds, boardIn, withRecords, withAsked};
+ghost use Rattle.descriptions.specs.Descriptions.{isUnknown, isAsked, askedTags, unwanted, foundIn, learnt, learntNone, describing};
+use board::parts::table_of;
+use board::starts::order_start;
+use board::starts::table_start;
+use board::starts::tags_in;
+use board::tag::put_description;
+use board::tag_lists::asked_at;
+use board::tag_lists::asked_count;
+use board::tag_lists::clear_asked;
+use board::tag_lists::push_asked;
 use fields::description_of;
-use fields::put_description;
 use fields::put_wants;
 use fields::settings_of;
 use fields::wants_of;
 use memory::cells::cell;
 use table::tag::Description;
-use tags::at;
-use tags::clear;
-use tags::count;
-use tags::push;
 
 fn is_unknown(d: Description) -> bool
     ensures { λ r. ⌜ r ≡ isUnknown d ⌝ }
@@ -44,24 +49,24 @@ fn is_asked(t: &[u8], k: usize) -> bool
     is_unknown(d)
 }
 
-// The tags to ask for, by tag number, into `list`. A list can hold tags below 65536.
-pub fn list_asked(t: &[u8], list: &mut [u8])
-    ensures { λ _. ⌜ listIn (now (list .exit)) ≡ fitted (room (now (list .entry))) (askedTags (tableIn (now (t .entry)))) ⌝ }
+// The descriptions that are wanted are asked for, by tag number.
+fn ask_wanted(b: &mut [u8])
+    requires { ⌜ IsBoard (now b) ⌝ }
+    ensures { λ _. ⌜ Holds (now (b .exit)) (withAsked (boardIn (now (b .entry))) (fitted (boardIn (now (b .entry)) .askedRoom) (askedTags (boardIn (now (b .entry)) .table .tags)))) ⌝ }
 {
-    clear(list);
-    let rows = t.len() / 256;
-    let n = if rows < 65536 { rows } else { 65536 };
+    clear_asked(b);
+    let n = tags_in(b);
     let mut k: usize = 0;
     while k < n {
-        if is_asked(t, k) {
-            push(list, k);
+        if is_asked(table_of(b), k) {
+            push_asked(b, k as u16);
         }
         k += 1;
     }
 }
 
 // No tag wants a description any more: the wants were looked at.
-pub fn use_up(t: &mut [u8])
+fn use_up_in(t: &mut [u8])
     ensures { λ _. ⌜ tableIn (now (t .exit)) ≡ map unwanted (tableIn (now (t .entry))) ⌝ }
 {
     let n = t.len() / 256;
@@ -72,6 +77,24 @@ pub fn use_up(t: &mut [u8])
         }
         k += 1;
     }
+}
+
+fn use_up(b: &mut [u8])
+    requires { ⌜ IsBoard (now b) ⌝ }
+    ensures { λ _. ⌜ Holds (now (b .exit)) (withRecords (boardIn (now (b .entry))) (map unwanted (boardIn (now (b .entry)) .table .tags))) ⌝ }
+{
+    let start = table_start(b);
+    let end = order_start(b);
+    use_up_in(&mut b[start..end]);
+}
+
+// The descriptions that are wanted are asked for, and the wants are used up.
+pub fn ask_descriptions(b: &mut [u8])
+    requires { ⌜ IsBoard (now b) ⌝ }
+    ensures { λ _. ⌜ Holds (now (b .exit)) (describing (boardIn (now (b .entry)))) ⌝ }
+{
+    ask_wanted(b);
+    use_up(b);
 }
 
 // Description i of an answer, in a cell of its own: 0 for none, and otherwise the number and 1.
@@ -85,31 +108,33 @@ fn found_at(found: &[u8], i: usize) -> Description
     Description::Is(((n - 1) % 0x1_0000_0000) as u32)
 }
 
-// The descriptions of the first tags of `asked`, as many as were found.
-pub fn learn(t: &mut [u8], asked: &[u8], found: &[u8])
-    ensures { λ _. ⌜ tableIn (now (t .exit)) ≡ learnt (now (found .entry)) (listIn (now (asked .entry))) (tableIn (now (t .entry))) ⌝ }
+// The descriptions of the first tags asked for, as many as were found.
+pub fn learn(b: &mut [u8], found: &[u8])
+    requires { ⌜ IsBoard (now b) ⌝ }
+    ensures { λ _. ⌜ Holds (now (b .exit)) (withRecords (boardIn (now (b .entry))) (learnt (now (found .entry)) (boardIn (now (b .entry)) .asked) (boardIn (now (b .entry)) .table .tags))) ⌝ }
 {
     let most = found.len() / 8;
-    let listed = count(asked);
+    let listed = asked_count(b);
     let n = if listed < most { listed } else { most };
     let mut i: usize = 0;
     while i < n {
-        let k = at(asked, i);
+        let k = asked_at(b, i);
         let d = found_at(found, i);
-        put_description(t, k, d);
+        put_description(b, k, d);
         i += 1;
     }
 }
 
-// The answer failed: the tags of `asked` are known to have none, so they are not asked for again.
-pub fn learn_none(t: &mut [u8], asked: &[u8])
-    ensures { λ _. ⌜ tableIn (now (t .exit)) ≡ learntNone (listIn (now (asked .entry))) (tableIn (now (t .entry))) ⌝ }
+// The answer failed: the tags asked for are known to have none, so they are not asked for again.
+pub fn learn_none(b: &mut [u8])
+    requires { ⌜ IsBoard (now b) ⌝ }
+    ensures { λ _. ⌜ Holds (now (b .exit)) (withRecords (boardIn (now (b .entry))) (learntNone (boardIn (now (b .entry)) .asked) (boardIn (now (b .entry)) .table .tags))) ⌝ }
 {
-    let n = count(asked);
+    let n = asked_count(b);
     let mut i: usize = 0;
     while i < n {
-        let k = at(asked, i);
-        put_description(t, k, Description::Nothing);
+        let k = asked_at(b, i);
+        put_description(b, k, Description::Nothing);
         i += 1;
     }
 }

@@ -16,10 +16,10 @@ module _ (w : List ℕ) (h : length w ≡ 32) where
   unfolding tagFrom spread
   cached-put v e f = subst (λ (r : List ℕ). tagFrom (withEntryWords r 16 v) ≡ withCached (tagFrom r) e) (spread-is 32 w h) (rw f)
 
-  pub published-put : (v : EntryWords) (e : Entry) → heldFrom v ≡ Is e → tagFrom (withEntryWords w 22 v) ≡ withPublished (tagFrom w) e
+  pub published-put : (v : EntryWords) (e : Entry) → heldFrom v ≡ Is e → tagFrom (withEntryWords w 24 v) ≡ withPublished (tagFrom w) e
   unfolding tagFrom spread
-  published-put v e f = subst (λ (r : List ℕ). tagFrom (withEntryWords r 22 v) ≡ withPublished (tagFrom r) e) (spread-is 32 w h) (rw f)
+  published-put v e f = subst (λ (r : List ℕ). tagFrom (withEntryWords r 24 v) ≡ withPublished (tagFrom r) e) (spread-is 32 w h) (rw f)
 
-  pub readings-forgotten : tagFrom (set (set (set (set (set (set w 4 0) 5 0) 6 0) 7 0) 16 0) 22 0) ≡ withoutReadings (tagFrom w)
+  pub readings-forgotten : tagFrom (set (set (set (set (set (set w 4 0) 5 0) 6 0) 7 0) 16 0) 24 0) ≡ withoutReadings (tagFrom w)
   unfolding tagFrom spread
-  readings-forgotten = subst (λ (r : List ℕ). tagFrom (set (set (set (set (set (set r 4 0) 5 0) 6 0) 7 0) 16 0) 22 0) ≡ withoutReadings (tagFrom r)) (spread-is 32 w h) refl
+  readings-forgotten = subst (λ (r : List ℕ). tagFrom (set (set (set (set (set (set r 4 0) 5 0) 6 0) 7 0) 16 0) 24 0) ≡ withoutReadings (tagFrom r)) (spread-is 32 w h) refl

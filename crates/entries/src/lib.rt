@@ -15,6 +15,11 @@ use words::entry::EntryWords;
 use words::entry::entry_words;
 use words::entry::held_from;
 
+// The first cells of the two entries in a row.
+const CACHED: usize = 16;
+
+const PUBLISHED: usize = 24;
+
 // The six words of an entry, from the cell `first` on.
 fn words_at(t: &[u8], k: usize, first: usize) -> EntryWords
     requires { ⌜ first < 27 ⌝ }
@@ -40,7 +45,7 @@ fn words_at(t: &[u8], k: usize, first: usize) -> EntryWords
 pub fn cached_words(t: &[u8], k: usize) -> EntryWords
     ensures { λ r. ⌜ heldFrom r ≡ getD (tableIn (now (t .entry))) k freshTag .cached ⌝ }
 {
-    words_at(t, k, 16)
+    words_at(t, k, CACHED)
 }
 
 pub fn cached_of(t: &[u8], k: usize) -> Held
@@ -53,7 +58,7 @@ pub fn cached_of(t: &[u8], k: usize) -> Held
 pub fn published_of(t: &[u8], k: usize) -> Held
     ensures { λ r. ⌜ r ≡ getD (tableIn (now (t .entry))) k freshTag .published ⌝ }
 {
-    let w = words_at(t, k, 22);
+    let w = words_at(t, k, PUBLISHED);
     held_from(w)
 }
 
@@ -73,14 +78,14 @@ pub fn put_cached(t: &mut [u8], k: usize, e: Entry)
     ensures { λ _. ⌜ tableIn (now (t .exit)) ≡ set (tableIn (now (t .entry))) k (withCached (getD (tableIn (now (t .entry))) k freshTag) e) ⌝ }
 {
     let w = entry_words(e);
-    put_words(t, k, 16, w);
+    put_words(t, k, CACHED, w);
 }
 
 pub fn put_published(t: &mut [u8], k: usize, e: Entry)
     ensures { λ _. ⌜ tableIn (now (t .exit)) ≡ set (tableIn (now (t .entry))) k (withPublished (getD (tableIn (now (t .entry))) k freshTag) e) ⌝ }
 {
     let w = entry_words(e);
-    put_words(t, k, 22, w);
+    put_words(t, k, PUBLISHED, w);
 }
 
 // Last reading time, missing mark and both entries are forgotten. A 0 in its first cell is no entry.
@@ -91,6 +96,6 @@ pub fn forget(t: &mut [u8], k: usize)
     put_row_cell(t, k, 5, 0);
     put_row_cell(t, k, 6, 0);
     put_row_cell(t, k, 7, 0);
-    put_row_cell(t, k, 16, 0);
-    put_row_cell(t, k, 22, 0);
+    put_row_cell(t, k, CACHED, 0);
+    put_row_cell(t, k, PUBLISHED, 0);
 }

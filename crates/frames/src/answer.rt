@@ -11,7 +11,7 @@ pub const BEFORE: u8 = 0xa5;
 pub struct Answered {
     pub at: usize,
     pub n: usize,
-    pub numbers: [u64; 10],
+    pub numbers: [u64; 11],
 }
 
 // Nothing: no answer stands at the frame's end, so the frame is found malformed.
@@ -19,7 +19,7 @@ pub fn no_answer(frame: &[u8]) -> Answered {
     Answered {
         at: frame.len(),
         n: 0,
-        numbers: [0; 10],
+        numbers: [0; 11],
     }
 }
 

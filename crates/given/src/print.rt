@@ -1,5 +1,8 @@
 // What the cases print, each with a label before it.
+use lent::changes::CHANGE;
 use libc::STDOUT_FILENO;
+use memory::cells::cell;
+use names::directory::MAX_NAMES;
 use table::tag::Description;
 use tags::at;
 use tags::count;
@@ -68,6 +71,27 @@ pub fn tags(label: &[u8], list: &[u8]) {
         text(b" none");
     }
     each(list);
+}
+
+// The tag of the change at place i: its first cell.
+fn changed(out: &[u8], i: usize) {
+    if MAX_NAMES <= i {
+        return;
+    }
+    next(cell(out, CHANGE / 8 * i));
+}
+
+// The tags of the first n changes.
+pub fn changes(label: &[u8], out: &[u8], n: usize) {
+    text(label);
+    if n == 0 {
+        text(b" none");
+    }
+    let mut i: usize = 0;
+    while i < n {
+        changed(out, i);
+        i += 1;
+    }
 }
 
 fn wide(x: u8) -> u64 {

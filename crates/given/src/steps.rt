@@ -1,6 +1,13 @@
 // The steps that cases are made of: tags entered, settings and results put down, readings and rounds.
+ghost use Rattle.board.specs.Layout.{IsBoard};
 use super::print::asked;
+use board::parts::asked_of;
+use board::tag_lists::clear_asked;
+use board::tag_lists::push_asked;
+use lent::changes::CHANGE;
 use memory::cells::put_cell;
+use readings::listed::apply;
+use rounds::round::cycle_tags;
 use rounds::tick::Cycle;
 use rounds::tick::Options;
 use tags::contains;
@@ -19,16 +26,12 @@ pub fn first() -> Cycle {
     }
 }
 
-// A tier call without a grace, for a tag that is no bit.
-pub fn enter_in(table: &mut [u8], order: &mut [u8], k: u16, tier: u8) {
-    let mut graces = [0u8; 16];
-    set_tier(table, order, &mut graces, &[0u8; 16], k, tier, 0.0, 0.0);
-}
-
-// Likewise, where nothing asks for the order in which tags entered.
-pub fn enter(table: &mut [u8], k: u16, tier: u8) {
-    let mut order = [0u8; 4];
-    enter_in(table, &mut order, k, tier);
+// A tier call without a grace.
+pub fn enter(b: &mut [u8], k: u16, tier: u8)
+    requires { ⌜ IsBoard (now b) ⌝ }
+    ensures { λ _. ⌜ IsBoard (now (b .exit)) ⌝ }
+{
+    set_tier(b, k, tier, 0.0, 0.0);
 }
 
 // Two cells, at 2 i and behind it.
@@ -83,96 +86,66 @@ pub fn put_error(results: &mut [u8], i: usize, kind: ErrorKind, message: u32) {
     put_pair(results, 2 * i + 1, w.kind, w.message);
 }
 
-// The result of tag 0 applied; whether it is sent. A list of tags is their count and then each, in two bytes.
-pub fn apply_first(table: &mut [u8], results: &[u8], start: f64, t: i64, polled: bool) -> bool {
-    let tags = [1u8, 0, 0, 0];
-    let mut sent = [0u8; 4];
-    let mut changes = [0u8; 4];
-    readings::listed::apply(
-        table,
-        &mut sent,
-        &mut changes,
-        &tags,
-        results,
-        start,
-        t,
-        polled,
-    );
-    contains(&changes, 0)
+// The result of tag 0 applied; whether it is sent.
+pub fn apply_first(b: &mut [u8], results: &[u8], start: f64, t: i64, polled: bool) -> bool
+    requires { ⌜ IsBoard (now b) ⌝ }
+    ensures { λ _. ⌜ IsBoard (now (b .exit)) ⌝ }
+{
+    let mut out = [0u8; CHANGE];
+    clear_asked(b);
+    push_asked(b, 0);
+    apply(b, &mut out, results, start, t, polled) != 0
 }
 
 // A polled value of tag 0.
-pub fn poll(table: &mut [u8], v: Value, t: i64) -> bool {
+pub fn poll(b: &mut [u8], v: Value, t: i64) -> bool
+    requires { ⌜ IsBoard (now b) ⌝ }
+    ensures { λ _. ⌜ IsBoard (now (b .exit)) ⌝ }
+{
     let mut results = [0u8; 32];
     put_value(&mut results, 0, v);
-    apply_first(table, &results, 0.0, t, true)
+    apply_first(b, &results, 0.0, t, true)
 }
 
 // A value of tag 0 read back after a write.
-pub fn read_back(table: &mut [u8], v: Value, start: f64, t: i64) -> bool {
+pub fn read_back(b: &mut [u8], v: Value, start: f64, t: i64) -> bool
+    requires { ⌜ IsBoard (now b) ⌝ }
+    ensures { λ _. ⌜ IsBoard (now (b .exit)) ⌝ }
+{
     let mut results = [0u8; 32];
     put_value(&mut results, 0, v);
-    apply_first(table, &results, start, t, false)
+    apply_first(b, &results, start, t, false)
 }
 
 // Tag 0 is found missing in a round that starts at `start`.
-pub fn miss(table: &mut [u8], start: f64) -> bool {
+pub fn miss(b: &mut [u8], start: f64) -> bool
+    requires { ⌜ IsBoard (now b) ⌝ }
+    ensures { λ _. ⌜ IsBoard (now (b .exit)) ⌝ }
+{
     let mut results = [0u8; 32];
     put_error(&mut results, 0, ErrorKind::NotFound, 1);
-    apply_first(table, &results, start, 0, true)
+    apply_first(b, &results, start, 0, true)
 }
 
-// A round with a cycle of half a second, a tier-2 period as long, and names in rising order of lower case.
-pub fn round(
-    table: &mut [u8],
-    order: &mut [u8],
-    groups: &mut [u8],
-    recorded: &mut [u8],
-    list: &mut [u8],
-    c: Cycle,
-    clock: f64,
-) -> Cycle {
-    let mut graces = [0u8; 16];
-    let words = [0u8; 16];
-    let keys = [0u8, 0, 1, 0, 2, 0, 3, 0, 4, 0, 5, 0, 6, 0, 7, 0];
-    let mut sorted = [0u8; 16];
-    let mut wanted = [0u8; 16];
+// A round with a cycle of half a second and a tier-2 period as long.
+pub fn round(b: &mut [u8], c: Cycle, clock: f64) -> Cycle
+    requires { ⌜ IsBoard (now b) ⌝ }
+    ensures { λ _. ⌜ IsBoard (now (b .exit)) ⌝ }
+{
     let o = Options {
         cycle: 0.5,
         period: 0.5,
         grace: 0.0,
     };
-    let r = rounds::round::cycle_tags(
-        table,
-        order,
-        &mut graces,
-        &words,
-        &keys,
-        groups,
-        recorded,
-        &mut sorted,
-        &mut wanted,
-        list,
-        o,
-        c,
-        clock,
-    );
+    let r = cycle_tags(b, o, c, clock);
     r.cycle
 }
 
 // A first round; prints whether it asks for tag 0.
-pub fn ask_first(label: &[u8], table: &mut [u8], order: &mut [u8], clock: f64) {
-    let mut groups = [0u8; 256];
-    let mut recorded = [0u8; 4];
-    let mut list = [0u8; 16];
-    round(
-        table,
-        order,
-        &mut groups,
-        &mut recorded,
-        &mut list,
-        first(),
-        clock,
-    );
-    asked(label, contains(&list, 0));
+pub fn ask_first(label: &[u8], b: &mut [u8], clock: f64)
+    requires { ⌜ IsBoard (now b) ⌝ }
+    ensures { λ _. ⌜ IsBoard (now (b .exit)) ⌝ }
+{
+    round(b, first(), clock);
+    asked(label, contains(asked_of(b), 0));
 }

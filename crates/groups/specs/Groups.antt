@@ -1,18 +1,19 @@
 -- Rules 6 and 10: what is recorded of each group as its tags are listed.
 use mathlib.Core.Bool.{Bool, true, false, cond}
-use mathlib.Core.List.{List, map}
-use Prim.Native.Nat.{ℕ, _%_}
+use mathlib.Core.List.{List}
+use Prim.Native.Nat.{ℕ, _/_, _%_}
 use lib.Dec.{ltb}
 use lib.Ieee.{Float, binary64, ofBits}
-use lib.ListN.{getD, set}
-use Rattle.memory.specs.Cells.{rowsIn}
+use lib.ListN.{length, getD, set}
+use Rattle.memory.specs.Blocks.{blocks}
+use Rattle.memory.specs.Cells.{cellsIn}
 use Rattle.tags.specs.Lists.{listIn, room, pushed, member}
 use Rattle.groups.specs.declared.group.Group.{Group}
 
 abbrev pub freshGroup : Group
 freshGroup = record { read = false; again = false; rate = 0; last = ofBits binary64 0; before = ofBits binary64 0 }
 
--- the group that a row holds
+-- the group that the first five of its eight cells hold; the other three are spare
 unfoldable pub groupFrom : List ℕ → Group
 groupFrom ws = record {
   read = ltb 0 (getD ws 0 0);
@@ -22,9 +23,9 @@ groupFrom ws = record {
   before = ofBits binary64 (getD ws 4 0);
 }
 
--- the groups that lent memory holds
+-- the groups that lent memory holds, one for each whole 64 bytes
 unfoldable pub groupsIn : List ℕ → List Group
-groupsIn bs = map groupFrom (rowsIn bs)
+groupsIn bs = blocks groupFrom 8 (length bs / 64) (cellsIn bs)
 
 -- The groups, and those that were recorded in the order of their first reading; `room` is how many that list can hold.
 pub record Groups : Type 0 where

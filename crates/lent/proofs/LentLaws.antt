@@ -1,8 +1,8 @@
--- Cells and records written one after the other.
+-- Cells, records and tags written one after the other.
 use mathlib.Core.Path.{_≡_, refl, ap, sym, _∙_}
 use mathlib.Core.Bool.{cond}
 use mathlib.Core.List.{List, [], _∷_, _++_, append-assoc, append-nil}
-use Prim.Native.Nat.{ℕ, zero, suc, _+_, _*_, _/_, _≤_, _<_, min}
+use Prim.Native.Nat.{ℕ, zero, suc, _+_, _*_, _/_, _%_, _≤_, _<_, min}
 use native.Mathlib.Nat.{mul-zero, mul-suc, mul-le-mul-left}
 use native.Mathlib.Numerals.{add-one}
 use native.Mathlib.Omega.{arith}
@@ -11,11 +11,12 @@ use lib.Dec.{leb}
 use lib.ListN.{length, getD, set, take, drop, length-append, length-drop, take-append-drop}
 use lib.Seq.{sets, sets-eq, take-at, drop-drop, drop-append-add, take-suc, length-take-le}
 use Rattle.memory.specs.Cells.{bytesOf}
-use Rattle.lent.specs.Lent.{cellBytes, overBytes, wroteCells, wroteAll, cellPut, recordPut, records}
+use Rattle.memory.specs.Halves.{halfBytes}
+use Rattle.lent.specs.Lent.{cellBytes, tagBytes, overBytes, wroteAll, cellPut, recordPut, records}
 
 -- ---- bytes over the front of a list
 
-over-none : (out : List ℕ) → overBytes out [] ≡ out
+pub over-none : (out : List ℕ) → overBytes out [] ≡ out
 unfolding overBytes
 over-none [] = refl
 over-none (o ∷ out) = refl
@@ -73,14 +74,14 @@ one-cell v = append-nil (bytesOf v)
 
 -- ---- cells written from the front
 
-pub wrote-none : (out : List ℕ) → wroteCells out [] ≡ out
+pub wrote-none : (out : List ℕ) → overBytes out (cellBytes []) ≡ out
 unfolding cellBytes
 wrote-none out = over-none out
 
-pub wrote-length : (out cells : List ℕ) → length (wroteCells out cells) ≡ length out
+pub wrote-length : (out cells : List ℕ) → length (overBytes out (cellBytes cells)) ≡ length out
 wrote-length out cells = over-length out (cellBytes cells)
 
-pub wrote-fits : (out cells : List ℕ) → 8 * length cells ≤ length out → wroteCells out cells ≡ cellBytes cells ++ drop (8 * length cells) out
+pub wrote-fits : (out cells : List ℕ) → 8 * length cells ≤ length out → overBytes out (cellBytes cells) ≡ cellBytes cells ++ drop (8 * length cells) out
 wrote-fits out cells h =
     over-fits out (cellBytes cells) (omega (arith, length-bytes cells))
     ∙ ap (λ (n : ℕ). cellBytes cells ++ drop n out) (length-bytes cells)
@@ -141,7 +142,7 @@ record-more out i a b h =
     ∙ sym (record-fits out i (a ++ b) (omega arith))
 
 -- cells written from the front are a record at 0
-wrote-record : (out cells : List ℕ) → 8 * length cells ≤ length out → wroteCells out cells ≡ recordPut out 0 cells
+wrote-record : (out cells : List ℕ) → 8 * length cells ≤ length out → overBytes out (cellBytes cells) ≡ recordPut out 0 cells
 wrote-record out cells h =
     wrote-fits out cells h
     ∙ ap (λ (j : ℕ). cellBytes cells ++ drop j out) (let e : 8 * length cells ≡ 8 * (0 + length cells) = omega arith in e)
@@ -149,7 +150,7 @@ wrote-record out cells h =
 
 -- a record after cells written from the front
 pub put-record : (out cells more : List ℕ) → 8 * (length cells + length more) ≤ length out
-    → recordPut (wroteCells out cells) (length cells) more ≡ wroteCells out (cells ++ more)
+    → recordPut (overBytes out (cellBytes cells)) (length cells) more ≡ overBytes out (cellBytes (cells ++ more))
 put-record out cells more h =
     let none : length cells ≡ 0 + length cells = omega arith in
     ap (λ (l : List ℕ). recordPut l (length cells) more) (wrote-record out cells (omega arith))
@@ -167,8 +168,8 @@ cell-record out i v =
     ∙ ap (λ (l : List ℕ). cond (leb (8 * (i + 1)) (length out)) (take (8 * i) out ++ (l ++ drop (8 * (i + 1)) out)) out) (sym (one-cell v))
 
 -- one cell more at the end
-pub put-next : (out cells : List ℕ) (v : ℕ) → 8 * (length cells + 1) ≤ length out → cellPut (wroteCells out cells) (length cells) v ≡ wroteCells out (cells ++ (v ∷ []))
-put-next out cells v h = cell-record (wroteCells out cells) (length cells) v ∙ put-record out cells (v ∷ []) h
+pub put-next : (out cells : List ℕ) (v : ℕ) → 8 * (length cells + 1) ≤ length out → cellPut (overBytes out (cellBytes cells)) (length cells) v ≡ overBytes out (cellBytes (cells ++ (v ∷ [])))
+put-next out cells v h = cell-record (overBytes out (cellBytes cells)) (length cells) v ∙ put-record out cells (v ∷ []) h
 
 -- one cell more of a record
 pub cell-more : (out : List ℕ) (i : ℕ) (cells : List ℕ) (v : ℕ) → 8 * (i + length cells + 1) ≤ length out
@@ -188,13 +189,60 @@ cell-kept out i v h = rw (lt-leb (8 * i + 8) (length out) (omega arith))
 
 -- ---- all or nothing
 
-pub all-fits : (out cells : List ℕ) → 8 * length cells ≤ length out → wroteAll out cells ≡ wroteCells out cells
+pub all-fits : (out bytes : List ℕ) → length bytes ≤ length out → wroteAll out bytes ≡ overBytes out bytes
 unfolding wroteAll
-all-fits out cells h = rw (le-leb _ _ h)
+all-fits out bytes h = rw (le-leb _ _ h)
 
-pub all-kept : (out cells : List ℕ) → length out < 8 * length cells → wroteAll out cells ≡ out
+pub all-kept : (out bytes : List ℕ) → length out < length bytes → wroteAll out bytes ≡ out
 unfolding wroteAll
-all-kept out cells h = rw (lt-leb _ _ h)
+all-kept out bytes h = rw (lt-leb _ _ h)
+
+-- the same of cells
+pub cells-fit : (out cells : List ℕ) → 8 * length cells ≤ length out → wroteAll out (cellBytes cells) ≡ overBytes out (cellBytes cells)
+cells-fit out cells h = all-fits out (cellBytes cells) (omega (arith, length-bytes cells))
+
+pub cells-left : (out cells : List ℕ) → length out < 8 * length cells → wroteAll out (cellBytes cells) ≡ out
+cells-left out cells h = all-kept out (cellBytes cells) (omega (arith, length-bytes cells))
+
+-- ---- tags of two bytes
+
+pub length-tags : (tags : List ℕ) → length (tagBytes tags) ≡ 2 * length tags
+unfolding tagBytes
+length-tags [] = refl
+length-tags (k ∷ tags) = length-append (halfBytes k) (tagBytes tags) ∙ omega (arith, length-tags tags)
+
+tags-next : (tags : List ℕ) (k : ℕ) → tagBytes (tags ++ (k ∷ [])) ≡ tagBytes tags ++ halfBytes k
+unfolding tagBytes
+tags-next [] k = refl
+tags-next (x ∷ tags) k =
+    ap (λ (r : List ℕ). halfBytes x ++ r) (tags-next tags k) ∙ sym (append-assoc (halfBytes x) (tagBytes tags) (halfBytes k))
+
+pub tags-none : (out : List ℕ) → out ≡ overBytes out (tagBytes [])
+unfolding tagBytes
+tags-none out = sym (over-none out)
+
+-- two bytes more at the end
+two-more : (out bytes : List ℕ) (a b : ℕ) → length bytes + 2 ≤ length out
+    → set (set (overBytes out bytes) (length bytes) a) (suc (length bytes)) b ≡ overBytes out (bytes ++ (a ∷ b ∷ []))
+unfolding overBytes
+two-more [] bytes a b h = absurd (omega arith)
+two-more (o ∷ []) [] a b h = absurd (omega arith)
+two-more (o ∷ p ∷ out) [] a b h = ap (λ (r : List ℕ). a ∷ b ∷ r) (sym (over-none out))
+two-more (o ∷ out) (c ∷ bytes) a b h = ap (λ (r : List ℕ). c ∷ r) (two-more out bytes a b (omega arith))
+
+-- the tag at i, after those before it
+pub tag-next : (out xs : List ℕ) (i : ℕ) → i < length xs → 2 * length xs ≤ length out
+    → set (set (overBytes out (tagBytes (take i xs))) (2 * i) (getD xs i 0 % 256)) (2 * i + 1) (getD xs i 0 / 0x100 % 256) ≡ overBytes out (tagBytes (take (i + 1) xs))
+tag-next out xs i h fits =
+    let done = take i xs in
+    let k = getD xs i 0 in
+    let long : length (tagBytes done) ≡ 2 * i = omega (arith, length-tags done, length-take-le i xs (omega arith)) in
+    let past : 2 * i + 1 ≡ suc (length (tagBytes done)) = omega (arith, long) in
+    ap (λ (n : ℕ). set (set (overBytes out (tagBytes done)) (2 * i) (k % 256)) n (k / 0x100 % 256)) past
+    ∙ ap (λ (n : ℕ). set (set (overBytes out (tagBytes done)) n (k % 256)) (suc (length (tagBytes done))) (k / 0x100 % 256)) (sym long)
+    ∙ two-more out (tagBytes done) (k % 256) (k / 0x100 % 256) (omega (arith, long))
+    ∙ ap (overBytes out) (sym (tags-next done k))
+    ∙ ap (λ (l : List ℕ). overBytes out (tagBytes l)) (sym (ap (λ (j : ℕ). take j xs) (add-one i) ∙ take-suc xs i 0 h))
 
 -- ---- a run of records of n cells
 
@@ -204,7 +252,7 @@ module _ (f : ℕ → List ℕ) where
   records-append [] b = refl
   records-append (k ∷ a) b = ap (λ (l : List ℕ). f k ++ l) (records-append a b) ∙ sym (append-assoc (f k) (records f a) (records f b))
 
-  pub records-none : (out xs : List ℕ) → out ≡ wroteCells out (records f (take 0 xs))
+  pub records-none : (out xs : List ℕ) → out ≡ overBytes out (cellBytes (records f (take 0 xs)))
   unfolding records
   records-none out xs = sym (wrote-none out)
 
@@ -221,21 +269,21 @@ module _ (f : ℕ → List ℕ) where
 
     -- the record of one number more
     pub put-after : (out ks : List ℕ) (k : ℕ) → 8 * (n * (length ks + 1)) ≤ length out
-        → recordPut (wroteCells out (records f ks)) (n * length ks) (f k) ≡ wroteCells out (records f (ks ++ (k ∷ [])))
+        → recordPut (overBytes out (cellBytes (records f ks))) (n * length ks) (f k) ≡ overBytes out (cellBytes (records f (ks ++ (k ∷ []))))
     put-after out ks k fits =
         let long = length-records ks in
         let next : n * (length ks + 1) ≡ n * length ks + n = ap (λ (m : ℕ). n * m) (add-one (length ks)) ∙ mul-suc n (length ks) in
-        ap (λ (j : ℕ). recordPut (wroteCells out (records f ks)) j (f k)) (sym long)
+        ap (λ (j : ℕ). recordPut (overBytes out (cellBytes (records f ks))) j (f k)) (sym long)
         ∙ put-record out (records f ks) (f k) (omega (arith, long, each k, next))
-        ∙ ap (wroteCells out) (sym (records-next ks k))
+        ∙ ap (λ (l : List ℕ). overBytes out (cellBytes l)) (sym (records-next ks k))
 
     -- the record of the number at i, after those before it
     pub put-nth : (out xs : List ℕ) (i d : ℕ) → i < length xs → 8 * (n * length xs) ≤ length out
-        → recordPut (wroteCells out (records f (take i xs))) (n * i) (f (getD xs i d)) ≡ wroteCells out (records f (take (i + 1) xs))
+        → recordPut (overBytes out (cellBytes (records f (take i xs)))) (n * i) (f (getD xs i d)) ≡ overBytes out (cellBytes (records f (take (i + 1) xs)))
     put-nth out xs i d h fits =
         let ks = take i xs in
         let long : length ks ≡ i = length-take-le i xs (omega arith) in
         let most : n * (length ks + 1) ≤ n * length xs = mul-le-mul-left n (omega arith) in
-        ap (λ (j : ℕ). recordPut (wroteCells out (records f ks)) (n * j) (f (getD xs i d))) (sym long)
+        ap (λ (j : ℕ). recordPut (overBytes out (cellBytes (records f ks))) (n * j) (f (getD xs i d))) (sym long)
         ∙ put-after out ks (getD xs i d) (omega (arith, most))
-        ∙ ap (λ (l : List ℕ). wroteCells out (records f l)) (sym (ap (λ (j : ℕ). take j xs) (add-one i) ∙ take-suc xs i d h))
+        ∙ ap (λ (l : List ℕ). overBytes out (cellBytes (records f l))) (sym (ap (λ (j : ℕ). take j xs) (add-one i) ∙ take-suc xs i d h))

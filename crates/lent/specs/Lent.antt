@@ -1,15 +1,21 @@
--- Lists lent for writing: cells of eight bytes, the low byte first, over the first bytes of a list.
+-- Lists lent for writing: cells of eight bytes and tags of two, the low byte first, over the first bytes of a list.
 use mathlib.Core.Bool.{Bool, cond}
 use mathlib.Core.List.{List, [], _∷_, _++_}
 use Prim.Native.Nat.{ℕ, _+_, _*_}
 use lib.Dec.{leb}
 use lib.ListN.{length, take, drop}
 use Rattle.memory.specs.Cells.{bytesOf}
+use Rattle.memory.specs.Halves.{halfBytes}
 
 -- the bytes of a list of cells, eight each
 unfoldable pub cellBytes : List ℕ → List ℕ
 cellBytes [] = []
 cellBytes (v ∷ cells) = bytesOf v ++ cellBytes cells
+
+-- the bytes of a list of tags, two each
+unfoldable pub tagBytes : List ℕ → List ℕ
+tagBytes [] = []
+tagBytes (k ∷ tags) = halfBytes k ++ tagBytes tags
 
 -- The bytes over the first places of a list. The places past them keep their contents, and bytes past its end are not written.
 unfoldable pub overBytes : List ℕ → List ℕ → List ℕ
@@ -17,17 +23,13 @@ overBytes [] bytes = []
 overBytes (o ∷ out) [] = o ∷ out
 overBytes (o ∷ out) (b ∷ bytes) = b ∷ overBytes out bytes
 
--- cells written from the front
-abbrev pub wroteCells : List ℕ → List ℕ → List ℕ
-wroteCells out cells = overBytes out (cellBytes cells)
-
--- whether there is room for all of the cells
+-- whether there is room for all of the bytes
 abbrev pub hasRoom : List ℕ → List ℕ → Bool
-hasRoom out cells = leb (8 * length cells) (length out)
+hasRoom out bytes = leb (length bytes) (length out)
 
--- cells written from the front where there is room for all of them, and nothing otherwise
+-- bytes written from the front where there is room for all of them, and nothing otherwise
 unfoldable pub wroteAll : List ℕ → List ℕ → List ℕ
-wroteAll out cells = cond (hasRoom out cells) (wroteCells out cells) out
+wroteAll out bytes = cond (hasRoom out bytes) (overBytes out bytes) out
 
 -- cell i replaced where it lies whole within the list, and nothing otherwise
 unfoldable pub cellPut : List ℕ → ℕ → ℕ → List ℕ

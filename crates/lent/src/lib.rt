@@ -1,10 +1,10 @@
-// Lists that a host lends for writing: records one after the other, each of some cells of eight bytes. What is written and
-// what keeps its contents is said to the byte.
+// Lists that a host lends for writing: records one after the other, each of some cells of eight bytes, or tags of two bytes. What is
+// written and what keeps its contents is said to the byte.
 pub mod changes;
 
 ghost use mathlib.Core.Path.{_≡_};
 ghost use Rattle.tags.specs.Lists.{listIn};
-ghost use Rattle.lent.specs.Lent.{cellPut, recordPut, overBytes, wroteAll};
+ghost use Rattle.lent.specs.Lent.{cellPut, recordPut, tagBytes, overBytes, wroteAll};
 use tags::at;
 use tags::count;
 
@@ -44,17 +44,20 @@ pub fn put_record(out: &mut [u8], i: usize, cells: &[u64])
     }
 }
 
-// The tags of a list, a cell each; where there is no room for all of them nothing is written.
+// The tags of a list, two bytes each; where there is no room for all of them nothing is written.
 pub fn put_tags(out: &mut [u8], list: &[u8])
-    ensures { λ _. ⌜ now (out .exit) ≡ wroteAll (now (out .entry)) (listIn (now (list .entry))) ⌝ }
+    ensures { λ _. ⌜ now (out .exit) ≡ wroteAll (now (out .entry)) (tagBytes (listIn (now (list .entry)))) ⌝ }
 {
     let n = count(list);
-    if out.len() / 8 < n {
+    if out.len() / 2 < n {
         return;
     }
     let mut i: usize = 0;
     while i < n {
-        put_cell(out, i, at(list, i) as u64);
+        let k = at(list, i);
+        let p = 2 * i;
+        out[p] = (k % 256) as u8;
+        out[p + 1] = (k / 0x100 % 256) as u8;
         i += 1;
     }
 }

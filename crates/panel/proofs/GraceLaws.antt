@@ -11,7 +11,8 @@ use lib.Seq.{getD-set-same, getD-set-other}
 use Rattle.table.specs.Tag.{f0, noGrace, freshTag}
 use Rattle.table.specs.Table.{withGrace}
 use Rattle.table.specs.declared.tag.Tag.{Tag}
-use Rattle.tiers.specs.Tiers.{Table, tagAt, isBit, tagSet, putTable, setTable, graceUntil, enterGrace, changeGrace, setTier}
+use Rattle.tiers.specs.Tiers.{tagSet, putTable, setTable, graceUntil, enterGrace, changeGrace, setTier}
+use Rattle.board.specs.Board.{Table, tagAt, isBit}
 use Rattle.panel.specs.Panel.{Graced}
 
 -- one tag replaced by one that is in tier 2 if it is in grace

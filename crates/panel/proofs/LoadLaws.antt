@@ -9,7 +9,8 @@ use lib.ListN.{length, length-set}
 use Rattle.lists.specs.Keep.{Below}
 use Rattle.table.specs.Tag.{f0}
 use Rattle.table.specs.Table.{withGrace}
-use Rattle.tiers.specs.Tiers.{Table, tagAt, graceUntil, enterGrace, changeGrace, setTier}
+use Rattle.tiers.specs.Tiers.{graceUntil, enterGrace, changeGrace, setTier}
+use Rattle.board.specs.Board.{Table, tagAt}
 use Rattle.tiers.specs.Listed.{Listed}
 use Rattle.tiers.proofs.ListedLaws.{put-long, set-long, listed-tier}
 use Rattle.panel.specs.Panel.{loaded, Graced}

@@ -11,7 +11,8 @@ use lib.ListN.{length, getD, take, drop, length-take, length-drop, drop-of-lengt
 use lib.Seq.{drop-cons, take-suc, getD-take, getD-drop}
 use borrow.Author.Tests.{eq-eqb, ne-eqb}
 use Rattle.tags.specs.Lists.{member}
-use Rattle.tiers.specs.Tiers.{Table, setTier}
+use Rattle.tiers.specs.Tiers.{setTier}
+use Rattle.board.specs.Board.{Table}
 use Rattle.panel.specs.Panel.{countIn, tagsOf, tiersOf, panelRoom, badTier, entryCheck, panelCheck, loaded}
 
 -- ---- the parts

@@ -17,7 +17,8 @@ use Rattle.tags.specs.Lists.{member}
 use Rattle.table.specs.Tag.{f0, freshTag, noGrace}
 use Rattle.table.specs.declared.tag.Tag.{Tag}
 use Rattle.table.specs.Table.{withGrace}
-use Rattle.tiers.specs.Tiers.{Table, tagAt, isBit, tagSet, orderSet, putTable, setTable, setTier}
+use Rattle.tiers.specs.Tiers.{tagSet, orderSet, putTable, setTable, setTier}
+use Rattle.board.specs.Board.{Table, tagAt, isBit}
 use Rattle.tiers.specs.Listed.{inTier, Listed}
 use Rattle.tiers.proofs.ListedLaws.{order-below}
 use Rattle.panel.specs.Panel.{tierIn, panelOf, panelRoom, countIn, tagsOf, tiersOf, badTier, entryCheck, panelCheck, loaded, loadedList, Empty}

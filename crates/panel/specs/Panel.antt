@@ -9,7 +9,8 @@ use lib.ListN.{length, getD, take, drop}
 use Rattle.tags.specs.Lists.{member}
 use Rattle.table.specs.Tag.{freshTag}
 use Rattle.table.specs.declared.tag.Tag.{Tag}
-use Rattle.tiers.specs.Tiers.{Table, tagAt, setTier}
+use Rattle.tiers.specs.Tiers.{setTier}
+use Rattle.board.specs.Board.{Table, tagAt}
 
 -- Rule 11: the bytes of a list of n tags: a count byte, n tag bytes and n tier bytes
 abbrev pub panelRoom : ℕ → ℕ

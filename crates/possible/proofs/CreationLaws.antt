@@ -1,20 +1,25 @@
 -- Creation has a result for every setup, since the code meets its contract; and every list of calls has a history from there on.
-use mathlib.Core.Path.{refl, sym, _∙_, subst}
+use mathlib.Core.Path.{_≡_, refl, sym, _∙_, subst}
 use mathlib.Core.Logic.{∥∥₁-prop, ∥∥₁-elim, ∥∥₁-map}
 use mathlib.Core.List.{[], _∷_}
 use Prim.Native.Nat.{ℕ, _<_, _^_}
 use native.Mathlib.Nat.{mul-one}
 use native.Mathlib.Omega.{arith}
 use lib.ListN.{length}
+use borrow.Author.Tests.{ne-eqb, eq-eqb, le-ltb}
 use denote.Builtin.{u8}
 use denote.Slice.{Room}
-use Rattle.checks.specs.Creation.{Setup}
+use Rattle.names.specs.Directory.{maxNames}
+use Rattle.checks.specs.Creation.{Setup, creationCheck}
+use Rattle.capi.specs.Memory.{memorySize}
+use Rattle.capi.specs.Creation.{creationAnswer}
 use Rattle.turns.specs.Contracts.{CreateMet}
 use Rattle.turns.specs.Demand.{Claim}
 use Rattle.possible.specs.Typed.{EveryList}
 use Rattle.possible.specs.Creations.{TypedSetup, EveryCreation, EveryEngine}
 use Rattle.possible.proofs.PossibleLaws.{ref, every-list}
 use Rattle.possible.proofs.CreateRuns.{InRange, create-has}
+use Rattle.turns.proofs.CallLaws.{names-some, names-few}
 use Rattle.turns.proofs.ClaimLaws.{demand-3}
 
 -- a lendable list has room
@@ -36,6 +41,14 @@ in-range s t = record {
   groups-fit = t .groups-typed .0;
   groups-room = has-room (length (s .groups)) (t .groups-typed .1);
 }
+
+-- creation answers 0 where its checks refuse nothing, in memory of that size
+accepted : (s : Setup) (n : ℕ) → n ≡ memorySize (length (s .ends)) → creationCheck s ≡ 0 → creationAnswer s n ≡ 0
+unfolding creationAnswer
+accepted s n size e =
+    let count = length (s .ends) in
+    let some = names-some s e in
+    rw (ne-eqb count 0 (λ z. omega (arith, some)), le-ltb maxNames count (names-few s e), eq-eqb n (memorySize count) size) e
 
 -- Creation has a result.
 pub every-creation : EveryCreation
@@ -61,7 +74,7 @@ every-creation s t mem l =
         met = y .2;
       },
       (y .3, subst (λ (n : ℕ). n < 2 ^ 63) (sym (y .2 .long)) (l .1)),
-      λ h e. y .2 .code h ∙ e,
+      λ h e. y .2 .code ∙ accepted s (length mem) h e,
     ))
 
 -- Every list of calls has a history from an engine on that creation made, and demand 3 holds of it.

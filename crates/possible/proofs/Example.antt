@@ -10,7 +10,7 @@ use Rattle.ieee.specs.Round.{float}
 use Rattle.checks.specs.Creation.{creationCheck}
 use Rattle.capi.specs.Creation.{freshWorker}
 use Rattle.histories.specs.Events.{BoundaryRound, boundaryRounds}
-use Rattle.histories.specs.Histories.{atEach, answers, trace}
+use Rattle.histories.specs.Histories.{answers, trace}
 use Rattle.turns.specs.Calls.{Call, tier, steps, write, lookState, lookPanel, Answer, numberIs, told, stateIs, statsAre, countsAre, listIs, tagIs, answer, after}
 use Rattle.turns.specs.Demand.{roundIn, event}
 use Rattle.possible.proofs.Fresh.{setup}
@@ -32,7 +32,6 @@ use Rattle.memory.specs.Blocks as memory-Blocks
 use Rattle.memory.specs.Cells as memory-Cells
 use Rattle.memory.specs.Halves as memory-Halves
 use Rattle.tags.specs.Lists as tags-Lists
-use Rattle.ranks.specs.Ranks as ranks-Ranks
 use Rattle.table.specs.Row as table-Row
 use Rattle.table.specs.Table as table-Table
 use Rattle.tiers.specs.Tiers as tiers-Tiers
@@ -56,22 +55,23 @@ use Rattle.apply.specs.Apply as apply-Apply
 use Rattle.readings.specs.Stale as readings-Stale
 use Rattle.readings.specs.Listed as readings-Listed
 use Rattle.lent.specs.Lent as lent-Lent
-use Rattle.writes.specs.Queue as writes-Queue
+use Rattle.queue.specs.Queue as queue-Queue
 use Rattle.descriptions.specs.Descriptions as descriptions-Descriptions
-use Rattle.board.specs.Regions as board-Regions
+use Rattle.board.specs.Layout as board-Layout
 use Rattle.board.specs.Board as board-Board
-use Rattle.polls.specs.Polls as polls-Polls
-use Rattle.board.specs.Creation as board-Creation
+use Rattle.readings.specs.Changes as readings-Changes
+use Rattle.fresh.specs.Fresh as fresh-Fresh
 use Rattle.replies.specs.Losing as replies-Losing
 use Rattle.cycles.specs.Polling as cycles-Polling
 use Rattle.worker.specs.Answers as worker-Answers
+use Rattle.capi.specs.Memory.{listSize}
 use Rattle.capi.specs.Memory as capi-Memory
 use Rattle.checks.specs.Calls as checks-Calls
 use Rattle.checks.specs.Creation as checks-Creation
 
 -- a step at the clock reading n with an answer of this kind
 abbrev pub stepAt : ℕ → ℕ → Call
-stepAt n kind = steps (float n) (pos 0) kind 7 0 (replicate 96 0) (replicate 6720 0)
+stepAt n kind = steps (float n) (pos 0) kind 7 0 (replicate 96 0) (replicate listSize 0)
 
 -- three tags in tier 2, a connect, and a round; then looks, a write, a refused tier call, a lost connection, a new connect, and a round
 abbrev pub someCalls : List Call
@@ -109,5 +109,5 @@ a-turn : (creationCheck setup ≡ 0)
     × (numbers (answers after answer someCalls (freshWorker setup)) ≡ 0 ∷ 0 ∷ 0 ∷ 1 ∷ 2 ∷ 9 ∷ 3 ∷ 1 ∷ 43 ∷ 0 ∷ 23 ∷ 13 ∷ 9 ∷ 7 ∷ 9 ∷ 1 ∷ 2 ∷ 9 ∷ 3 ∷ [])
     × (taken rounds ≡ (0 ∷ 1 ∷ []) ∷ (2 ∷ []) ∷ [])
     × (since rounds ≡ true ∷ false ∷ [])
-unfolding lists-Keep.keep lists-Keep.upTo lists-Slices.slice lists-Slices.next lists-Slices.slices lists-Sort.insert lists-Sort.sortOnto histories-Events.boundaryRounds histories-Events.allNames histories-Events.Each histories-Events.RestUndisturbed histories-Events.EveryTurnOfRounds histories-Histories.Ready histories-Histories.Happened histories-Histories.atEach histories-Respects.Respects ieee-Band.magnitude ieee-Band.within ieee-Round.roundTiesEven ieee-Round.slicesOf ieee-Round.round1Of ieee-Times.clockOk names-Order.compared names-Order.lowerOf names-Bits.lastDot names-Bits.allDigits names-Bits.splitBit names-Directory.cut names-Directory.goodEnds names-Directory.goodBytes names-Directory.goodNames names-Directory.risingFrom names-Directory.rising names-Directory.directoryCheck names-Keys.below names-Keys.find words-Entry.entryFrom words-Entry.entryWordsOf memory-Blocks.blocks memory-Cells.cellsIn memory-Cells.rowsIn memory-Halves.halvesIn tags-Lists.listIn ranks-Ranks.over table-Row.tagFrom table-Table.tableIn tiers-Tiers.timingSet tiers-Tiers.tagSet tiers-Tiers.orderSet tiers-Tiers.graceEnded tiers-Tiers.putTable tiers-Tiers.enterGrace tiers-Tiers.setTier groups-Groups.groupFrom groups-Groups.groupsIn groups-Groups.groupRead groups-Groups.noted rounds-Options.optionsCheck rounds-Tick.leastRate rounds-Graces.runOut rounds-Due.isDue rounds-Due.marked rounds-Due.recordedDue slices-Slice.placeOf rounds-Round.round settings-Records.recordsOf settings-Records.every settings-Settings.settingFrom settings-Settings.settingIn settings-Settings.settingOk settings-Settings.settingsOk settings-Configured.configuredFrom settings-Configured.givenGroups settings-Configured.groupOk settings-Configured.configuredOk settings-Configured.groupPlaces settings-Configured.configuredIn versions-Versions.tagTaken versions-Versions.eachAt versions-Versions.versionTable heads-Progress.phaseFrom heads-Stats.tailStats engine-Engine.engineFrom engine-Engine.engineIn engine-Engine.stored panel-Panel.panelOf panel-Panel.written panel-Panel.writtenLength panel-Panel.tagsOf panel-Panel.tiersOf panel-Panel.entryCheck panel-Panel.panelCheck panel-Panel.loaded apply-Apply.timingRead apply-Apply.isEntrySent apply-Apply.tagRead apply-Apply.appliedAt apply-Apply.sentAt readings-Stale.tagStale results-Results.resultIn results-Results.firstOk readings-Listed.applyNext readings-Listed.applyFrom lent-Lent.cellBytes lent-Lent.overBytes lent-Lent.wroteAll lent-Lent.cellPut lent-Lent.recordPut lent-Lent.records writes-Queue.writeFrom writes-Queue.placesIn writes-Queue.queueIn descriptions-Descriptions.knownFrom board-Regions.regionsIn board-Board.boardOf board-Board.boardIn polls-Polls.appliedTo polls-Polls.staledIn board-Creation.freshBoard replies-Losing.disconnected replies-Losing.staling replies-Losing.down replies-Losing.top cycles-Polling.idle cycles-Polling.tail cycles-Polling.resume cycles-Polling.writingOf cycles-Polling.checking cycles-Polling.reading cycles-Polling.polled cycles-Polling.poll cycles-Polling.finished worker-Answers.awaited worker-Answers.answers worker-Answers.contents worker-Answers.stepCheck worker-Answers.connected worker-Answers.reconnecting worker-Answers.opened worker-Answers.openVersion worker-Answers.roundVersion worker-Answers.results worker-Answers.descriptions worker-Answers.written worker-Answers.readBack worker-Answers.backApplied worker-Answers.waited worker-Answers.backedOff worker-Answers.taken worker-Answers.handled worker-Answers.stepped worker-Answers.step capi-Memory.workerIn checks-Calls.clockCheck checks-Calls.tierCheck checks-Calls.loadCheck checks-Calls.writeCheck checks-Creation.creationCheck ieee-lib.eq ieee-lib.le ieee-lib.lt ieee-lib.add ieee-lib.sub ieee-lib.mul ieee-lib.div ieee-lib.neg ieee-lib.ofInt ieee-lib.round ieee-lib.toUnsigned ieee-lib.ofBits ieee-lib.toBits after event answer roundIn
+unfolding lists-Keep.keep lists-Keep.upTo lists-Slices.slice lists-Slices.next lists-Slices.slices lists-Sort.insert lists-Sort.sortOnto histories-Events.boundaryRounds histories-Events.allNames histories-Events.Each histories-Events.RestUndisturbed histories-Events.EveryTurnOfRounds histories-Histories.Ready histories-Histories.Happened histories-Histories.atEach histories-Respects.Respects ieee-Band.magnitude ieee-Band.within ieee-Round.roundTiesEven ieee-Round.slicesOf ieee-Round.round1Of ieee-Times.clockOk names-Order.compared names-Order.lowerOf names-Bits.lastDot names-Bits.allDigits names-Bits.splitBit names-Directory.cut names-Directory.goodEnds names-Directory.goodBytes names-Directory.goodNames names-Directory.risingFrom names-Directory.rising names-Directory.directoryCheck names-Keys.below names-Keys.find words-Entry.entryFrom words-Entry.entryWordsOf memory-Blocks.blocks memory-Cells.cellsIn memory-Cells.rowsIn memory-Halves.halvesIn tags-Lists.listIn table-Row.tagFrom table-Table.tableIn tiers-Tiers.timingSet tiers-Tiers.tagSet tiers-Tiers.orderSet tiers-Tiers.graceEnded tiers-Tiers.putTable tiers-Tiers.enterGrace tiers-Tiers.setTier groups-Groups.groupFrom groups-Groups.groupsIn groups-Groups.groupRead groups-Groups.noted rounds-Options.optionsCheck rounds-Tick.leastRate rounds-Graces.runOut rounds-Due.isDue rounds-Due.marked rounds-Due.recordedDue slices-Slice.placeOf rounds-Round.round settings-Records.recordsOf settings-Records.every settings-Settings.settingFrom settings-Settings.settingIn settings-Settings.settingOk settings-Settings.settingsOk settings-Configured.configuredFrom settings-Configured.givenGroups settings-Configured.groupOk settings-Configured.configuredOk settings-Configured.groupPlaces settings-Configured.configuredIn versions-Versions.tagTaken versions-Versions.eachAt versions-Versions.versionTable heads-Progress.phaseFrom heads-Stats.tailStats engine-Engine.engineFrom engine-Engine.engineIn engine-Engine.stored panel-Panel.panelOf panel-Panel.written panel-Panel.writtenLength panel-Panel.tagsOf panel-Panel.tiersOf panel-Panel.entryCheck panel-Panel.panelCheck panel-Panel.loaded apply-Apply.timingRead apply-Apply.isEntrySent apply-Apply.tagRead apply-Apply.appliedAt apply-Apply.sentAt readings-Stale.tagStale results-Results.resultIn results-Results.firstOk readings-Listed.applyNext readings-Listed.applyFrom lent-Lent.cellBytes lent-Lent.overBytes lent-Lent.wroteAll lent-Lent.cellPut lent-Lent.recordPut lent-Lent.records queue-Queue.writeFrom queue-Queue.placesIn queue-Queue.queueIn descriptions-Descriptions.knownFrom board-Layout.partsIn board-Board.boardFrom board-Board.boardIn readings-Changes.appliedTo readings-Changes.staledIn fresh-Fresh.freshBoard replies-Losing.disconnected replies-Losing.staling replies-Losing.down replies-Losing.top cycles-Polling.idle cycles-Polling.tail cycles-Polling.resume cycles-Polling.writingOf cycles-Polling.checking cycles-Polling.reading cycles-Polling.polled cycles-Polling.poll cycles-Polling.finished worker-Answers.awaited worker-Answers.answers worker-Answers.contents worker-Answers.stepCheck worker-Answers.connected worker-Answers.reconnecting worker-Answers.opened worker-Answers.openVersion worker-Answers.roundVersion worker-Answers.results worker-Answers.descriptions worker-Answers.written worker-Answers.readBack worker-Answers.backApplied worker-Answers.waited worker-Answers.backedOff worker-Answers.taken worker-Answers.handled worker-Answers.stepped worker-Answers.step capi-Memory.workerIn checks-Calls.clockCheck checks-Calls.tierCheck checks-Calls.loadCheck checks-Calls.writeCheck checks-Creation.creationCheck ieee-lib.eq ieee-lib.le ieee-lib.lt ieee-lib.add ieee-lib.sub ieee-lib.mul ieee-lib.div ieee-lib.neg ieee-lib.ofInt ieee-lib.round ieee-lib.toUnsigned ieee-lib.ofBits ieee-lib.toBits after event answer roundIn
 a-turn = (refl, refl, refl, refl)

@@ -3,7 +3,7 @@ use mathlib.Core.Path.{_≡_, refl, sym, subst}
 use mathlib.Core.Bool.{true}
 use mathlib.Core.List.{List, _∷_, _++_}
 use mathlib.Core.Logic.{∥∥₁-map}
-use Prim.Native.Nat.{ℕ, zero, suc, _<_, _^_}
+use Prim.Native.Nat.{ℕ, zero, suc, _-_, _<_, _^_}
 use native.Mathlib.Omega.{arith}
 use lib.Ieee as ieee
 use lib.ListN.{replicate, length-replicate}
@@ -12,6 +12,8 @@ use prog.Model.{AllFit}
 use Rattle.ieee.specs.Round.{float}
 use Rattle.histories.specs.Events.{Each}
 use Rattle.histories.specs.Histories.{calls, Happened}
+use Rattle.board.specs.Layout.{boardSize}
+use Rattle.capi.specs.Memory.{listSize}
 use Rattle.turns.specs.Contracts.{Asked, Learnt}
 use Rattle.turns.specs.Demand.{History, Demand3, Claim}
 use Rattle.possible.specs.Typed.{Lendable, Typed, EveryList}
@@ -33,7 +35,7 @@ zeros n h = (zeros-fit n, subst (λ (k : ℕ). k < 2 ^ 63) (sym (length-replicat
 -- the steps of the example
 step-typed : (n kind : ℕ) → ieee.fits ieee.binary64 (float n) ≡ true → kind < 2 ^ 64 → Typed (stepAt n kind)
 unfolding Typed
-step-typed n kind f k = (f, omega arith, k, omega arith, omega arith, zeros 96 (omega arith), zeros 6720 (omega arith))
+step-typed n kind f k = (f, omega arith, k, omega arith, omega arith, zeros 96 (omega arith), zeros listSize (omega arith))
 
 -- clock readings
 float-0 : ieee.fits ieee.binary64 (float 0) ≡ true
@@ -69,9 +71,9 @@ fresh-lendable = (
       (one-more 63 (replicate 7 0 ++ (64 ∷ replicate 40 0 ++ (3 ∷ replicate 199 0))) (omega arith)
       (zeros-then 7 (64 ∷ replicate 40 0 ++ (3 ∷ replicate 199 0)) (one-more 64 (replicate 40 0 ++ (3 ∷ replicate 199 0)) (omega arith)
       (zeros-then 40 (3 ∷ replicate 199 0) (one-more 3 (replicate 199 0) (omega arith) (zeros-fit 199))))))))
-      (zeros-then 768 (0 ∷ 0 ∷ 1 ∷ 0 ∷ 2 ∷ 0 ∷ replicate 37370 0)
-      (one-more 0 (0 ∷ 1 ∷ 0 ∷ 2 ∷ 0 ∷ replicate 37370 0) (omega arith) (one-more 0 (1 ∷ 0 ∷ 2 ∷ 0 ∷ replicate 37370 0) (omega arith) (one-more 1 (0 ∷ 2 ∷ 0 ∷ replicate 37370 0) (omega arith)
-      (one-more 0 (2 ∷ 0 ∷ replicate 37370 0) (omega arith) (one-more 2 (0 ∷ replicate 37370 0) (omega arith) (one-more 0 (replicate 37370 0) (omega arith) (zeros-fit 37370)))))))),
+      (zeros-then (boardSize 3 - 12) (0 ∷ 0 ∷ 1 ∷ 0 ∷ 2 ∷ 0 ∷ replicate 6 0)
+      (one-more 0 (0 ∷ 1 ∷ 0 ∷ 2 ∷ 0 ∷ replicate 6 0) (omega arith) (one-more 0 (1 ∷ 0 ∷ 2 ∷ 0 ∷ replicate 6 0) (omega arith) (one-more 1 (0 ∷ 2 ∷ 0 ∷ replicate 6 0) (omega arith)
+      (one-more 0 (2 ∷ 0 ∷ replicate 6 0) (omega arith) (one-more 2 (0 ∷ replicate 6 0) (omega arith) (one-more 0 (replicate 6 0) (omega arith) (zeros-fit 6)))))))),
   subst (λ (k : ℕ). k < 2 ^ 63) (sym fresh-long) (omega arith),
 )
 

@@ -1,12 +1,13 @@
 -- A memory that creation leaves, computed.
-use mathlib.Core.Path.{_≡_, refl, sym, _∙_}
+use mathlib.Core.Path.{_≡_, refl, ap, sym, _∙_}
 use mathlib.Core.List.{List, [], _∷_, _++_}
-use Prim.Native.Nat.{ℕ}
+use Prim.Native.Nat.{ℕ, _-_}
 use lib.Ieee as ieee-lib
 use lib.ListN.{length, length-replicate, replicate}
 use Rattle.ieee.specs.Round.{float}
-use Rattle.checks.specs.Creation.{Setup, creationCheck}
-use Rattle.capi.specs.Creation.{freshWorker}
+use Rattle.board.specs.Layout.{boardSize}
+use Rattle.checks.specs.Creation.{Setup}
+use Rattle.capi.specs.Creation.{freshWorker, creationAnswer}
 use Rattle.capi.specs.Memory.{memorySize, workerIn}
 use Rattle.turns.specs.Contracts.{CreateMet}
 use Rattle.possible.proofs.PossibleLaws.{ref}
@@ -20,7 +21,6 @@ use Rattle.memory.specs.Blocks as memory-Blocks
 use Rattle.memory.specs.Cells as memory-Cells
 use Rattle.memory.specs.Halves as memory-Halves
 use Rattle.tags.specs.Lists as tags-Lists
-use Rattle.ranks.specs.Ranks as ranks-Ranks
 use Rattle.table.specs.Row as table-Row
 use Rattle.table.specs.Table as table-Table
 use Rattle.groups.specs.Groups as groups-Groups
@@ -32,10 +32,10 @@ use Rattle.versions.specs.Versions as versions-Versions
 use Rattle.heads.specs.Progress as heads-Progress
 use Rattle.heads.specs.Stats as heads-Stats
 use Rattle.engine.specs.Engine as engine-Engine
-use Rattle.writes.specs.Queue as writes-Queue
-use Rattle.board.specs.Regions as board-Regions
+use Rattle.queue.specs.Queue as queue-Queue
+use Rattle.board.specs.Layout as board-Layout
 use Rattle.board.specs.Board as board-Board
-use Rattle.board.specs.Creation as board-Creation
+use Rattle.fresh.specs.Fresh as fresh-Fresh
 use Rattle.capi.specs.Memory as capi-Memory
 use Rattle.checks.specs.Creation as checks-Creation
 
@@ -52,28 +52,28 @@ setup = record {
 abbrev pub headBytes : List ℕ
 headBytes = replicate 6 0 ++ (240 ∷ 63 ∷ replicate 7 0 ++ (64 ∷ replicate 40 0 ++ (3 ∷ replicate 199 0)))
 
--- the board: the sort keys, and nothing else
+-- the board: nothing but the sort keys, two bytes each, and behind them the words, as many bytes of 0
 abbrev pub boardBytes : List ℕ
-boardBytes = replicate 768 0 ++ (0 ∷ 0 ∷ 1 ∷ 0 ∷ 2 ∷ 0 ∷ replicate 37370 0)
+boardBytes = replicate (boardSize 3 - 12) 0 ++ (0 ∷ 0 ∷ 1 ∷ 0 ∷ 2 ∷ 0 ∷ replicate 6 0)
 
 abbrev pub fresh : List ℕ
 fresh = headBytes ++ boardBytes
 
 abbrev pub lent : List ℕ
-lent = replicate 38400 0
+lent = replicate (memorySize 3) 0
 
 -- creation accepts this setup; the memory holds a fresh engine, and is as long as the one that was lent
-computed : (creationCheck setup ≡ 0) × (workerIn fresh ≡ freshWorker setup) × (length fresh ≡ 38400)
-unfolding lists-Keep.keep lists-Keep.upTo names-Order.compared names-Order.lowerOf names-Bits.lastDot names-Bits.allDigits names-Bits.splitBit names-Directory.cut names-Directory.goodEnds names-Directory.goodBytes names-Directory.goodNames names-Directory.risingFrom names-Directory.rising names-Directory.directoryCheck names-Keys.below names-Keys.find words-Entry.entryFrom words-Entry.entryWordsOf memory-Blocks.blocks memory-Cells.cellsIn memory-Cells.rowsIn memory-Halves.halvesIn tags-Lists.listIn ranks-Ranks.over table-Row.tagFrom table-Table.tableIn groups-Groups.groupFrom groups-Groups.groupsIn groups-Groups.groupRead rounds-Options.optionsCheck settings-Records.recordsOf settings-Records.every settings-Settings.settingFrom settings-Settings.settingIn settings-Settings.settingOk settings-Settings.settingsOk settings-Configured.configuredFrom settings-Configured.givenGroups settings-Configured.groupOk settings-Configured.configuredOk settings-Configured.groupPlaces settings-Configured.configuredIn versions-Versions.tagTaken versions-Versions.eachAt versions-Versions.versionTable heads-Progress.phaseFrom heads-Stats.tailStats engine-Engine.engineFrom engine-Engine.engineIn engine-Engine.stored writes-Queue.writeFrom writes-Queue.placesIn writes-Queue.queueIn board-Regions.regionsIn board-Board.boardOf board-Board.boardIn board-Creation.freshBoard capi-Memory.workerIn checks-Creation.creationCheck ieee-lib.eq ieee-lib.le ieee-lib.lt ieee-lib.add ieee-lib.sub ieee-lib.mul ieee-lib.div ieee-lib.neg ieee-lib.ofInt ieee-lib.round ieee-lib.toUnsigned ieee-lib.ofBits ieee-lib.toBits
+computed : (creationAnswer setup (memorySize 3) ≡ 0) × (workerIn fresh ≡ freshWorker setup) × (length fresh ≡ memorySize 3)
+unfolding lists-Keep.keep lists-Keep.upTo names-Order.compared names-Order.lowerOf names-Bits.lastDot names-Bits.allDigits names-Bits.splitBit names-Directory.cut names-Directory.goodEnds names-Directory.goodBytes names-Directory.goodNames names-Directory.risingFrom names-Directory.rising names-Directory.directoryCheck names-Keys.below names-Keys.find words-Entry.entryFrom words-Entry.entryWordsOf memory-Blocks.blocks memory-Cells.cellsIn memory-Cells.rowsIn memory-Halves.halvesIn tags-Lists.listIn table-Row.tagFrom table-Table.tableIn groups-Groups.groupFrom groups-Groups.groupsIn groups-Groups.groupRead rounds-Options.optionsCheck settings-Records.recordsOf settings-Records.every settings-Settings.settingFrom settings-Settings.settingIn settings-Settings.settingOk settings-Settings.settingsOk settings-Configured.configuredFrom settings-Configured.givenGroups settings-Configured.groupOk settings-Configured.configuredOk settings-Configured.groupPlaces settings-Configured.configuredIn versions-Versions.tagTaken versions-Versions.eachAt versions-Versions.versionTable heads-Progress.phaseFrom heads-Stats.tailStats engine-Engine.engineFrom engine-Engine.engineIn engine-Engine.stored queue-Queue.writeFrom queue-Queue.placesIn queue-Queue.queueIn board-Layout.partsIn board-Board.boardFrom board-Board.boardIn fresh-Fresh.freshBoard capi-Memory.workerIn creationAnswer checks-Creation.creationCheck ieee-lib.eq ieee-lib.le ieee-lib.lt ieee-lib.add ieee-lib.sub ieee-lib.mul ieee-lib.div ieee-lib.neg ieee-lib.ofInt ieee-lib.round ieee-lib.toUnsigned ieee-lib.ofBits ieee-lib.toBits
 computed = (refl, refl, refl)
 
-pub fresh-long : length fresh ≡ 38400
+pub fresh-long : length fresh ≡ memorySize 3
 fresh-long = computed .2
 
 -- so its contract allows that creation answers 0 and leaves this memory
 pub created : CreateMet setup lent fresh 0
 created =
-    let size : length lent ≡ memorySize = length-replicate {A = ℕ} 38400 0 in
+    let size : length lent ≡ memorySize 3 = length-replicate {A = ℕ} (memorySize 3) 0 in
     record {
       lifetimes = (0 ∷ [], (1 ∷ [], (2 ∷ [], (3 ∷ [], tt))));
       names = ref (setup .names);
@@ -89,9 +89,8 @@ created =
       mem-is = refl;
       mem-left = refl;
       met = record {
-        alien = λ z. absurd (z size);
-        code = λ h. sym (computed .0);
-        done = λ h e. computed .1;
+        code = sym (ap (creationAnswer setup) size ∙ computed .0);
+        done = λ e. computed .1;
         kept = λ z. absurd (z refl);
         long = computed .2 ∙ sym size;
       };

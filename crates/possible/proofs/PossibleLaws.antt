@@ -14,8 +14,7 @@ use denote.Slice.{Room}
 use Rattle.histories.specs.Events.{Each}
 use Rattle.histories.specs.Histories.{Happened}
 use Rattle.lent.specs.Lent.{records}
-use Rattle.board.specs.Board.{rowCells}
-use Rattle.shown.specs.Looks.{listed, leftIn, panelLeft}
+use Rattle.shown.specs.Looks.{listed, leftIn, panelLeft, rowCells}
 use Rattle.capi.specs.Memory.{workerIn}
 use Rattle.capi.specs.Looks.{stateLook, statsLook, countsLook, groupCells, groupCount, groupCheck, tableCount, tableCheck, panelBytes, panelCount, panelCode, tagLook}
 use Rattle.turns.specs.Calls.{Call, tier, load, steps, write, stop, lookState, lookStats, lookCounts, lookGroups, lookTable, lookPanel, lookTag, Answer, numberIs, told, stateIs, statsAre, countsAre, listIs, tagIs}

@@ -27,14 +27,14 @@ pub record TypedSetup (s : Setup) : Type 0 where
   pub settings-typed : Lendable (s .settings)
   pub groups-typed : Lendable (s .groups)
 
--- Creation has a result: it answers, and leaves a memory. It answers 0 where the memory is as long as an engine's and the checks refuse nothing.
+-- Creation has a result: it answers, and leaves a memory. It answers 0 where the memory is as long as that of an engine of so many names and the checks refuse nothing.
 unfoldable pub EveryCreation : Type 0
 EveryCreation =
     (s : Setup) → TypedSetup s → (mem : List ℕ) → Lendable mem
-    → ∥ ((fresh : List ℕ) × (r : ℕ) × CreateMet s mem fresh r × Lendable fresh × (length mem ≡ memorySize → creationCheck s ≡ 0 → r ≡ 0)) ∥₁
+    → ∥ ((fresh : List ℕ) × (r : ℕ) × CreateMet s mem fresh r × Lendable fresh × (length mem ≡ memorySize (length (s .ends)) → creationCheck s ≡ 0 → r ≡ 0)) ∥₁
 
 -- For every setup that the checks let in and every list of calls there is a memory that creation leaves with the answer 0, and a history of the calls from it on; demand 3 holds of it.
 unfoldable pub EveryEngine : Type 0
 EveryEngine =
-    (s : Setup) → TypedSetup s → creationCheck s ≡ 0 → (mem : List ℕ) → Lendable mem → length mem ≡ memorySize → (cs : List Call) → Each cs Typed
+    (s : Setup) → TypedSetup s → creationCheck s ≡ 0 → (mem : List ℕ) → Lendable mem → length mem ≡ memorySize (length (s .ends)) → (cs : List Call) → Each cs Typed
     → ∥ ((fresh : List ℕ) × (h : History) × CreateMet s mem fresh 0 × (calls h ≡ cs) × Happened Asked Learnt fresh h × Demand3 s fresh h) ∥₁

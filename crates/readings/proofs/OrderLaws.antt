@@ -13,23 +13,23 @@ use lib.Ieee.{Float}
 use lib.ListN.{length, getD, set, take, length-set, length-take, length-append, List·getD-eq-default}
 use lib.Seq.{getD-set-same, getD-set-other, ext-getD}
 use Rattle.lists.specs.Keep.{keep, count, Below, upTo}
-use Rattle.lists.proofs.KeepLaws.{keep-append, below-take}
+use Rattle.lists.proofs.KeepLaws.{count-take, keep-append, below-take}
 use Rattle.values.specs.declared.entry.TagResult.{TagResult}
-use Rattle.tags.specs.Lists.{listIn, room, pushed, member}
-use Rattle.tags.proofs.ListLaws.{pushed-more, list-below}
+use Rattle.tags.specs.Lists.{pushed, member, fitted}
+use Rattle.tags.proofs.ListLaws.{pushed-more}
 use Rattle.table.specs.Tag.{freshTag}
-use Rattle.table.specs.Table.{tableIn}
+use Rattle.table.specs.Table.{byRank}
 use Rattle.table.specs.declared.tag.Tag.{Tag}
-use Rattle.slices.specs.Room.{fitted}
-use Rattle.rounds.specs.Added.{byRank}
-use Rattle.rounds.specs.Round.{Polling, Rooms, round}
-use Rattle.rounds.specs.declared.tick.Options.{Options}
-use Rattle.rounds.proofs.OnceLaws.{count-take, round-once}
-use Rattle.tiers.specs.Listed.{Listed}
 use Rattle.apply.specs.Apply.{tagApplied, isSent, appliedAt, sentAt}
 use Rattle.results.specs.Results.{resultCount, resultIn}
-use Rattle.readings.specs.Listed.{Applying, applyNext, applyFrom, applyAll, inTagOrder, AppliedAll}
+use Rattle.ranks.specs.Ranks.{over, wordsOf}
+use Rattle.board.specs.Board.{boardIn, withRecords}
+use Rattle.board.proofs.BoardLaws.{asked-below, asked-short}
+use Rattle.writes.specs.ReadBack.{readBackTags}
+use Rattle.writes.proofs.OnceLaws.{directory-once}
+use Rattle.readings.specs.Listed.{Applying, applyNext, applyFrom, applyAll, inTagOrder}
 use Rattle.readings.specs.Order.{placeIn, ownResult, applyTurn, applyTurns, applyInOrder}
+use Rattle.readings.specs.Changes.{appliedTo}
 
 -- ---- which tags a list names
 
@@ -392,24 +392,26 @@ module _ (start : Float) (t : ℤ) (polled : Bool) where
     same-sent n results (take (resultCount results) tags) table once small fits,
   )
 
-  -- Rule 7: so what the contract of `apply` says of memory is rule 7 taken tag by tag.
-  pub applied-in-order : (table sent changes tags results table' changes' : List ℕ) → AppliedAll table sent changes tags results start t polled table' changes'
-      → ((k : ℕ) → count k (listIn tags) ≤ 1) → length (listIn tags) ≤ room sent
-      → (tableIn table' ≡ applyInOrder results start t polled (listIn tags) (tableIn table) .tags)
-      × (listIn changes' ≡ fitted (room changes) (applyInOrder results start t polled (listIn tags) (tableIn table) .sent))
-  applied-in-order table sent changes tags results table' changes' a once fits =
+  -- Rule 7: so what the contract of `apply` says of the board is rule 7 taken tag by tag.
+  pub applied-in-order : (bs results : List ℕ) → ((k : ℕ) → count k (boardIn bs .asked) ≤ 1)
+      → (appliedTo (boardIn bs) results start t polled .board ≡ withRecords (boardIn bs) (applyInOrder results start t polled (boardIn bs .asked) (boardIn bs .table .tags) .tags))
+      × (appliedTo (boardIn bs) results start t polled .changes ≡ fitted (boardIn bs .askedRoom) (applyInOrder results start t polled (boardIn bs .asked) (boardIn bs .table .tags) .sent))
+  unfolding appliedTo
+  applied-in-order bs results once =
+      let B = boardIn bs in
       let m = resultCount results in
-      let same = tag-order (room sent) results (listIn tags) (tableIn table)
-      (λ k. omega (arith, once k, count-take k m (listIn tags)))
-      (below-take 65536 m (listIn tags) (list-below tags))
-      (omega (arith, length-take m (listIn tags))) in
-      (a .tabled ∙ same .0, a .changed ∙ ap (fitted (room changes)) (same .1))
+      let same = tag-order (B .askedRoom) results (B .asked) (B .table .tags)
+      (λ k. omega (arith, once k, count-take k m (B .asked)))
+      (below-take 65536 m (B .asked) (asked-below bs))
+      (omega (arith, length-take m (B .asked), asked-short bs)) in
+      (ap (λ (z : List Tag). withRecords B z) (same .0), ap (fitted (B .askedRoom)) (same .1))
 
-  -- Rules 6 and 7: the readings of a round's list are applied in tag order.
-  pub round-in-order : (table sent changes tags results table' changes' : List ℕ) → AppliedAll table sent changes tags results start t polled table' changes'
-      → (less : ℕ → ℕ → Bool) (rooms : Rooms) (o : Options) (P : Polling) (clock : Float) → Listed (P .table) → listIn tags ≡ round less rooms o P clock .list
-      → length (listIn tags) ≤ room sent
-      → (tableIn table' ≡ applyInOrder results start t polled (listIn tags) (tableIn table) .tags)
-      × (listIn changes' ≡ fitted (room changes) (applyInOrder results start t polled (listIn tags) (tableIn table) .sent))
-  round-in-order table sent changes tags results table' changes' a less rooms o P clock l e fits =
-      applied-in-order table sent changes tags results table' changes' a (λ k. rw e (round-once less rooms o P clock l k)) fits
+-- Rules 7 and 8: the tags of a read-back are named once, so its readings are applied in tag order.
+pub read-back-in-order : (bs results : List ℕ) (start : Float) (t : ℤ)
+    → (n : ℕ) (old : List ℕ) (ns : List (List ℕ)) → length ns ≤ length old → length ns ≤ 65534 → (k : ℕ) → k < length ns
+    → boardIn bs .asked ≡ fitted n (readBackTags (over old (wordsOf ns)) k)
+    → (appliedTo (boardIn bs) results start t false .board ≡ withRecords (boardIn bs) (applyInOrder results start t false (boardIn bs .asked) (boardIn bs .table .tags) .tags))
+    × (appliedTo (boardIn bs) results start t false .changes ≡ fitted (boardIn bs .askedRoom) (applyInOrder results start t false (boardIn bs .asked) (boardIn bs .table .tags) .sent))
+read-back-in-order bs results start t n old ns few small k h e =
+    applied-in-order start t false bs results
+    (λ j. rw e (omega (arith, count-take j n (readBackTags (over old (wordsOf ns)) k), directory-once old ns few small k h j)))

@@ -8,12 +8,11 @@ use lib.Ieee.{Float}
 use lib.ListN.{take}
 use Rattle.lists.specs.Keep.{keep}
 use Rattle.values.specs.declared.entry.TagResult.{TagResult}
-use Rattle.tags.specs.Lists.{listIn, room, pushed, member}
-use Rattle.table.specs.Table.{tableIn}
+use Rattle.tags.specs.Lists.{listIn, pushed, member}
+use Rattle.table.specs.Table.{byRank}
 use Rattle.table.specs.declared.tag.Tag.{Tag}
-use Rattle.slices.specs.Room.{fitted}
-use Rattle.rounds.specs.Added.{byRank}
 use Rattle.results.specs.Results.{resultCount, resultIn}
+use Rattle.board.specs.Board.{Board, Holds, boardIn, withRecords}
 use Rattle.apply.specs.Apply.{appliedAt, sentAt}
 
 -- The table, and the tags whose readings were sent so far.
@@ -22,7 +21,7 @@ pub record Applying : Type 0 where
   pub sent : List ℕ
 
 abbrev pub applying : List ℕ → List ℕ → Applying
-applying table sent = record { tags = tableIn table; sent = listIn sent }
+applying bs sent = record { tags = boardIn bs .table .tags; sent = listIn sent }
 
 -- Rule 7: one reading more. A list in memory holds tags below 65536.
 unfoldable pub applyNext : ℕ → Applying → ℕ → TagResult → Float → ℤ → Bool → Applying
@@ -32,7 +31,7 @@ applyNext n S k r start t polled = record {
 }
 
 -- Rule 7: the readings of the tags of a list, the first of which is result i, in the order of the list. For a list that names no tag twice, as those of a round
--- and of a read-back are, this with `inTagOrder` is rule 7 tag by tag, `applyInOrder` of `Order`: proved in `OrderLaws` (`tag-order`, `round-in-order`).
+-- and of a read-back are, this with `inTagOrder` is rule 7 tag by tag, `applyInOrder` of `Order`: proved in `OrderLaws` (`tag-order`).
 unfoldable pub applyFrom : ℕ → List ℕ → Float → ℤ → Bool → ℕ → List ℕ → Applying → Applying
 applyFrom n results start t polled i [] S = S
 applyFrom n results start t polled i (k ∷ ks) S = applyFrom n results start t polled (suc i) ks (applyNext n S k (resultIn results i) start t polled)
@@ -45,7 +44,7 @@ applyAll n results start t polled tags table = applyFrom n results start t polle
 abbrev pub inTagOrder : List Tag → List ℕ → List ℕ
 inTagOrder table sent = keep (λ (k : ℕ). member k sent) (byRank table)
 
--- Rule 7: what a table and a list of changes hold after the readings of a list of tags.
-pub record AppliedAll (table sent changes tags results : List ℕ) (start : Float) (t : ℤ) (polled : Bool) (table' changes' : List ℕ) : Type 0 where
-  pub tabled : tableIn table' ≡ applyAll (room sent) results start t polled (listIn tags) (tableIn table) .tags
-  pub changed : listIn changes' ≡ fitted (room changes) (inTagOrder (tableIn table) (applyAll (room sent) results start t polled (listIn tags) (tableIn table) .sent))
+-- What readings leave of the board B and in a list is S.
+pub record Applied (B : Board) (S : Applying) (bs' sent' : List ℕ) : Type 0 where
+  pub holds : Holds bs' (withRecords B (S .tags))
+  pub sent-is : listIn sent' ≡ S .sent

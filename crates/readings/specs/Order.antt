@@ -9,7 +9,7 @@ use lib.ListN.{take}
 use Rattle.values.specs.declared.entry.TagResult.{TagResult}
 use Rattle.tags.specs.Lists.{member}
 use Rattle.table.specs.declared.tag.Tag.{Tag}
-use Rattle.rounds.specs.Added.{byRank}
+use Rattle.table.specs.Table.{byRank}
 use Rattle.apply.specs.Apply.{appliedAt, sentAt}
 use Rattle.results.specs.Results.{resultCount, resultIn}
 use Rattle.readings.specs.Listed.{Applying}

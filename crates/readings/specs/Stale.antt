@@ -11,7 +11,7 @@ use Rattle.values.specs.declared.entry.Held.{Held}
 use Rattle.values.specs.declared.entry.Held.the-variants.{None, Is}
 use Rattle.table.specs.Tag.{freshTag}
 use Rattle.table.specs.declared.tag.Tag.{Tag}
-use Rattle.rounds.specs.Added.{byRank}
+use Rattle.table.specs.Table.{byRank}
 
 abbrev pub isStale : Quality → Bool
 isStale Good = false

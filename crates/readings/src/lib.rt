@@ -1,3 +1,5 @@
-// Rule 7: the readings of a list of tags applied to the table, and a table marked stale.
+// Rule 7: the readings of the tags asked for applied to the board, a board marked stale, and the changes told.
+pub mod changes;
+pub mod kept;
 pub mod listed;
 pub mod stale;

@@ -1,12 +1,19 @@
 // What is known of a controller that is lost: every cached tag becomes stale.
 ghost use mathlib.Core.Path.{_≡_};
 ghost use mathlib.Core.List.{map};
-ghost use lib.ListN.{getD, set};
-ghost use Rattle.tags.specs.Lists.{listIn, room};
+ghost use lib.ListN.{length, getD, set};
+ghost use Rattle.tags.specs.Lists.{listIn, room, fitted};
 ghost use Rattle.table.specs.Tag.{freshTag};
 ghost use Rattle.table.specs.Table.{tableIn};
-ghost use Rattle.slices.specs.Room.{fitted};
+ghost use Rattle.board.specs.Layout.{IsBoard, partsIn, asked};
+ghost use Rattle.board.specs.Board.{Holds, boardIn, withRecords};
 ghost use Rattle.readings.specs.Stale.{isStale, isFresh, staleHeld, isStaled, tagStale, staledTags};
+ghost use Rattle.readings.specs.Changes.{staledIn, Changing};
+use super::changes::tell_changes;
+use board::parts::asked_of;
+use board::parts::table_of;
+use board::starts::order_start;
+use board::starts::table_start;
 use table::put_tag;
 use table::tag::Tag;
 use table::tag_of;
@@ -132,10 +139,32 @@ fn stale_all(table: &mut [u8])
     }
 }
 
-// Every cached tag not stale yet becomes stale; `changes` gets these tags in tag order.
-pub fn mark_stale(table: &mut [u8], changes: &mut [u8])
-    ensures { λ _. ⌜ (tableIn (now (table .exit)) ≡ map tagStale (tableIn (now (table .entry)))) × (listIn (now (changes .exit)) ≡ fitted (room (now (changes .entry))) (staledTags (tableIn (now (table .entry))))) ⌝ }
+fn stale_table(b: &mut [u8])
+    requires { ⌜ IsBoard (now b) ⌝ }
+    ensures { λ _. ⌜ Holds (now (b .exit)) (withRecords (boardIn (now (b .entry))) (map tagStale (boardIn (now (b .entry)) .table .tags))) ⌝ }
 {
-    list_staled(table, changes);
-    stale_all(table);
+    let start = table_start(b);
+    let end = order_start(b);
+    stale_all(&mut b[start..end]);
+}
+
+// `changes` is room to work in.
+fn mark_within(b: &mut [u8], out: &mut [u8], changes: &mut [u8]) -> usize
+    requires { ⌜ IsBoard (now b) ⌝ }
+    requires { ⌜ length (now changes) ≡ length (partsIn (now b) asked) ⌝ }
+    ensures { λ r. ⌜ Changing (staledIn (boardIn (now (b .entry)))) r (now (b .exit)) (now (out .entry)) (now (out .exit)) ⌝ }
+{
+    list_staled(table_of(b), changes);
+    stale_table(b);
+    tell_changes(b, out, changes)
+}
+
+// Every cached tag not stale yet becomes stale; the changes go into `out`, in tag order.
+pub fn mark_stale(b: &mut [u8], out: &mut [u8]) -> usize
+    requires { ⌜ IsBoard (now b) ⌝ }
+    ensures { λ r. ⌜ Changing (staledIn (boardIn (now (b .entry)))) r (now (b .exit)) (now (out .entry)) (now (out .exit)) ⌝ }
+{
+    let mut changes = [0u8; 2048];
+    let n = asked_of(b).len();
+    mark_within(b, out, &mut changes[0..n])
 }

@@ -12,7 +12,9 @@ use frames::answer::no_answer;
 use frames::numbers::eight;
 use frames::numbers::four;
 use frames::parts::list_at;
+use names::directory::MAX_NAMES;
 use replies::reply::Reply;
+use rounds::tick::Options;
 use words::scalar::float_of_word;
 use words::scalar::int_of_word;
 use words::scalar::word_of_float;
@@ -30,8 +32,8 @@ const FIFTH: usize = 41;
 
 const SIXTH: usize = 49;
 
-// Room for the ends of a directory; there are 120 at most, and a refused one has more.
-const ENDS: usize = 128;
+// Room for the ends of a directory; a refused one has more than there may be names.
+const ENDS: usize = MAX_NAMES + 8;
 
 pub fn float(frame: &[u8], at: usize) -> f64 {
     float_of_word(eight(frame, at))
@@ -64,7 +66,7 @@ fn made(code: u32, at: usize) -> Answered {
     Answered {
         at: at,
         n: 1,
-        numbers: [code as u64, 0, 0, 0, 0, 0, 0, 0, 0, 0],
+        numbers: [code as u64, 0, 0, 0, 0, 0, 0, 0, 0, 0, 0],
     }
 }
 
@@ -79,13 +81,16 @@ fn create_with<'a>(frame: &'a [u8], ends: &'a [u32], mem: &mut [u8]) -> Answered
     let groups = list_at(frame, settings_end);
     let groups_from = groups.from;
     let groups_end = groups.end;
+    let options = Options {
+        cycle: float(frame, FIRST),
+        period: float(frame, SECOND),
+        grace: float(frame, THIRD),
+    };
     let r = wz_create(
         mem,
         &frame[names_from..names_end],
         ends,
-        float(frame, FIRST),
-        float(frame, SECOND),
-        float(frame, THIRD),
+        options,
         &frame[settings_from..settings_end],
         &frame[groups_from..groups_end],
     );
@@ -150,6 +155,7 @@ fn replied(r: Reply, at: usize) -> Answered {
         r.error,
         r.message,
         word_of_float(r.seconds),
+        0,
     ];
     Answered {
         at: at,

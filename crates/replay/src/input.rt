@@ -5,7 +5,9 @@ use frames::counts::Counts;
 use frames::numbers::eight;
 use frames::numbers::four;
 use frames::report;
+use lent::changes::CHANGE;
 use libc::STDIN_FILENO;
+use names::directory::MAX_NAMES;
 
 // The last frame, with the number of histories and of calls.
 const END: u8 = 14;
@@ -89,10 +91,16 @@ fn take_all(room: &mut [u8], mem: &mut [u8], out: &mut [u8]) {
     }
 }
 
-// Room for a frame, for an engine and some bytes more, and for the longest list.
+// Room for a frame, for an engine and some bytes more, and for the longest list and some bytes more.
+const ROOM: usize = 16384;
+
+const MEMORY: usize = 38408;
+
+const LIST: usize = MAX_NAMES * CHANGE + 8;
+
 pub fn replay() {
-    let mut room = [0u8; 16384];
-    let mut mem = [0u8; 38408];
-    let mut out = [0u8; 6728];
+    let mut room = [0u8; ROOM];
+    let mut mem = [0u8; MEMORY];
+    let mut out = [0u8; LIST];
     take_all(&mut room, &mut mem, &mut out);
 }

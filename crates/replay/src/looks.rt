@@ -22,7 +22,7 @@ fn four_numbers(a: u64, b: u64, c: u64, d: u64) -> Answered {
     Answered {
         at: FIRST,
         n: 4,
-        numbers: [a, b, c, d, 0, 0, 0, 0, 0, 0],
+        numbers: [a, b, c, d, 0, 0, 0, 0, 0, 0, 0],
     }
 }
 
@@ -42,6 +42,7 @@ fn of_stats(r: StatsLook) -> Answered {
         r.overruns,
         r.reconnects,
         r.reloads,
+        0,
         0,
     ];
     Answered {
@@ -65,7 +66,7 @@ fn listed(r: ListLook) -> Answered {
     Answered {
         at: FIRST,
         n: 2,
-        numbers: [r.code, r.count, 0, 0, 0, 0, 0, 0, 0, 0],
+        numbers: [r.code, r.count, 0, 0, 0, 0, 0, 0, 0, 0, 0],
     }
 }
 
@@ -94,12 +95,13 @@ fn of_tag(r: TagLook) -> Answered {
         r.t,
         r.error,
         r.message,
+        r.has_g,
+        r.g,
         r.description,
-        0,
     ];
     Answered {
         at: SECOND,
-        n: 9,
+        n: 11,
         numbers: numbers,
     }
 }

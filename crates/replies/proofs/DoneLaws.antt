@@ -3,18 +3,18 @@ use mathlib.Core.Path.{_≡_, refl, ap, sym, _∙_, subst}
 use mathlib.Core.Bool.{Bool, true, false, cond}
 use mathlib.Core.List.{List, []}
 use Prim.Native.Nat.{ℕ}
-use Rattle.lent.specs.Lent.{wroteAll, wroteCells, hasRoom}
-use Rattle.lent.proofs.LentLaws.{wrote-none}
+use Rattle.lent.specs.Lent.{overBytes, wroteAll, hasRoom}
+use Rattle.lent.proofs.LentLaws.{over-none}
 use Rattle.board.specs.Board.{Board, boardIn}
 use Rattle.replies.specs.declared.reply.Said.{Said}
 use Rattle.replies.specs.Worker.{Told, Done, Quietly}
 
--- nothing is written where there are no cells
+-- nothing is written where there are no bytes
 pub wrote-nothing : (out : List ℕ) → wroteAll out [] ≡ out
 unfolding wroteAll
-wrote-nothing out = either-way (hasRoom out []) (wrote-none out)
+wrote-nothing out = either-way (hasRoom out []) (over-none out)
   where
-    either-way : (b : Bool) → wroteCells out [] ≡ out → cond b (wroteCells out []) out ≡ out
+    either-way : (b : Bool) → overBytes out [] ≡ out → cond b (overBytes out []) out ≡ out
     either-way true e = e
     either-way false e = refl
 

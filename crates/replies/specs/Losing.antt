@@ -2,14 +2,16 @@
 use mathlib.Core.Bool.{Bool, true, false, cond}
 use mathlib.Core.List.{List, [], _∷_}
 use lib.ListN.{length}
+use Rattle.lent.specs.Lent.{cellBytes, tagBytes}
 use Rattle.heads.specs.Link.{isState, withAttempt}
 use Rattle.heads.specs.Stats.{counted}
 use Rattle.heads.specs.declared.link.State.the-variants.{Disconnected, Stopped as AtStop}
 use Rattle.heads.specs.declared.progress.Phase.{Phase}
 use Rattle.heads.specs.declared.progress.Phase.the-variants.{Connect, Backoff, FailedTold, StaleTold, DisconnectedTold, Stopped}
 use Rattle.engine.specs.Engine.{backoffAt}
-use Rattle.board.specs.Board.{withQueue, queuedTags}
-use Rattle.polls.specs.Polls.{staledIn, changesIn}
+use Rattle.board.specs.Board.{withQueue}
+use Rattle.writes.specs.Failing.{queuedTags}
+use Rattle.readings.specs.Changes.{staledIn, changesIn}
 use Rattle.replies.specs.Reply as reply
 use Rattle.replies.specs.Worker.{Worker, Told, tell, asks, withBoard, phased, linked, stated}
 
@@ -22,12 +24,12 @@ withoutWrites W = withBoard W (withQueue (W .board) [])
 
 -- Rule 9: the writes that wait are told together, and none waits any more
 abbrev pub failing : Worker → Phase → Told
-failing W p = tell (phased (withoutWrites W) p) (reply.failed (length (queuedTags (W .board)))) (queuedTags (W .board))
+failing W p = tell (phased (withoutWrites W) p) (reply.failed (length (queuedTags (W .board)))) (tagBytes (queuedTags (W .board)))
 
 -- Rule 9: the state is stopped; the writes left are told with this last event
 abbrev pub ended : Worker → Told
 ended W =
-    tell (phased (stated (withoutWrites W) AtStop) Stopped) (reply.stopped (length (queuedTags (W .board)))) (queuedTags (W .board))
+    tell (phased (stated (withoutWrites W) AtStop) Stopped) (reply.stopped (length (queuedTags (W .board)))) (tagBytes (queuedTags (W .board)))
 
 -- Rule 9: the wait before the next attempt
 abbrev pub backingOff : Worker → Told
@@ -46,7 +48,7 @@ staling W =
     let C = staledIn (W .board) in
     let next = withBoard W (C .board) in
     cond (isEmpty (C .changes)) (disconnected next)
-    (tell (phased next StaleTold) (reply.values (length (C .changes))) (changesIn (C .board) (C .changes)))
+    (tell (phased next StaleTold) (reply.values (length (C .changes))) (cellBytes (changesIn (C .board) (C .changes))))
 
 -- Rule 9: the connection is lost
 unfoldable pub down : Worker → Told

@@ -30,15 +30,15 @@ pub record At : Type 0 where
   pub clock : Float
   pub wall : ℤ
 
--- What a step comes to: the engine it leaves, what it gives back, the cells of the lent list, and the round that it worked out, if it did.
+-- What a step comes to: the engine it leaves, what it gives back, the bytes of the lent list, and the round that it worked out, if it did.
 pub record Told : Type 0 where
   pub left : Worker
   pub reply : Reply
-  pub cells : List ℕ
+  pub bytes : List ℕ
   pub round : Option Round
 
 abbrev pub tell : Worker → Reply → List ℕ → Told
-tell W r cells = record { left = W; reply = r; cells = cells; round = none }
+tell W r bytes = record { left = W; reply = r; bytes = bytes; round = none }
 
 abbrev pub worker : Engine → Board → Worker
 worker e B = record { head = e; board = B }
@@ -78,12 +78,12 @@ pub record Done (T : Told) (s : Said) (board' out out' : List ℕ) : Type 0 wher
   pub head-is : s .head ≡ T .left .head
   pub board-is : boardIn board' ≡ T .left .board
   pub reply-is : s .reply ≡ T .reply
-  pub out-is : out' ≡ wroteAll out (T .cells)
-  pub silent : goesOn T ≡ true → T .cells ≡ []
+  pub out-is : out' ≡ wroteAll out (T .bytes)
+  pub silent : goesOn T ≡ true → T .bytes ≡ []
 
 -- What was said is T, which leaves the board B and the lent list as they are.
 pub record Quietly (T : Told) (s : Said) (B : Board) : Type 0 where
   pub head-is : s .head ≡ T .left .head
   pub reply-is : s .reply ≡ T .reply
   pub board-kept : T .left .board ≡ B
-  pub nothing : T .cells ≡ []
+  pub nothing : T .bytes ≡ []

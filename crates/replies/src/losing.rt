@@ -1,14 +1,12 @@
 // The end, and a connection that is lost.
 ghost use mathlib.Core.Path.{_≡_};
-ghost use lib.ListN.{length};
 ghost use Rattle.board.specs.Board.{Board, boardIn};
-ghost use Rattle.board.specs.Regions.{boardSize};
+ghost use Rattle.board.specs.Layout.{IsBoard};
 ghost use Rattle.replies.specs.Worker.{worker, saidIn, Done, Quietly};
 ghost use Rattle.replies.specs.Losing.{failing, ended, backingOff, disconnected, staling, down, top};
 use super::reply::Reply;
 use super::reply::Said;
-use board::queue::fail_writes;
-use board::queue::queued;
+use board::waiting::queued;
 use engine::Engine;
 use engine::with_link;
 use engine::with_progress;
@@ -19,7 +17,8 @@ use heads::link::with_state;
 use heads::progress::Phase;
 use heads::progress::with_phase;
 use heads::stats::more;
-use polls::entries::mark_stale;
+use readings::stale::mark_stale;
+use writes::failing::fail_writes;
 
 // Something is asked or told, and the engine waits in the phase p.
 pub fn phased(e: Engine, p: Phase, r: Reply) -> Said
@@ -35,7 +34,7 @@ pub fn phased(e: Engine, p: Phase, r: Reply) -> Said
 
 // The writes that wait are told together.
 pub fn failing(board: &mut [u8], out: &mut [u8], e: Engine, p: Phase) -> Said
-    requires { ⌜ length (now board) ≡ boardSize ⌝ }
+    requires { ⌜ IsBoard (now board) ⌝ }
     ensures { λ s. ⌜ Done (failing (worker e (boardIn (now (board .entry)))) p) s (now (board .exit)) (now (out .entry)) (now (out .exit)) ⌝ }
 {
     let n = fail_writes(board, out);
@@ -45,7 +44,7 @@ pub fn failing(board: &mut [u8], out: &mut [u8], e: Engine, p: Phase) -> Said
 
 // The state is stopped; the writes left are told with this last event.
 pub fn ended(board: &mut [u8], out: &mut [u8], e: Engine) -> Said
-    requires { ⌜ length (now board) ≡ boardSize ⌝ }
+    requires { ⌜ IsBoard (now board) ⌝ }
     ensures { λ s. ⌜ Done (ended (worker e (boardIn (now (board .entry))))) s (now (board .exit)) (now (out .entry)) (now (out .exit)) ⌝ }
 {
     let n = fail_writes(board, out);
@@ -82,7 +81,7 @@ pub fn disconnected(e: Engine) -> Said
 
 // Every cached tag not stale yet is marked stale.
 pub fn staling(board: &mut [u8], out: &mut [u8], e: Engine) -> Said
-    requires { ⌜ length (now board) ≡ boardSize ⌝ }
+    requires { ⌜ IsBoard (now board) ⌝ }
     ensures { λ s. ⌜ Done (staling (worker e (boardIn (now (board .entry))))) s (now (board .exit)) (now (out .entry)) (now (out .exit)) ⌝ }
 {
     let n = mark_stale(board, out);
@@ -95,7 +94,7 @@ pub fn staling(board: &mut [u8], out: &mut [u8], e: Engine) -> Said
 
 // The connection is lost.
 pub fn down(board: &mut [u8], out: &mut [u8], e: Engine) -> Said
-    requires { ⌜ length (now board) ≡ boardSize ⌝ }
+    requires { ⌜ IsBoard (now board) ⌝ }
     ensures { λ s. ⌜ Done (down (worker e (boardIn (now (board .entry))))) s (now (board .exit)) (now (out .entry)) (now (out .exit)) ⌝ }
 {
     let link = e.link;
@@ -110,7 +109,7 @@ pub fn down(board: &mut [u8], out: &mut [u8], e: Engine) -> Said
 
 // The next connect, unless a stop was asked for.
 pub fn top(board: &mut [u8], out: &mut [u8], e: Engine) -> Said
-    requires { ⌜ length (now board) ≡ boardSize ⌝ }
+    requires { ⌜ IsBoard (now board) ⌝ }
     ensures { λ s. ⌜ Done (top (worker e (boardIn (now (board .entry))))) s (now (board .exit)) (now (out .entry)) (now (out .exit)) ⌝ }
 {
     let link = e.link;

@@ -5,7 +5,8 @@ use Prim.Native.Nat.{ℕ, _+_, _≤_, _<_}
 use native.Mathlib.Numerals.{add-one}
 use lib.ListN.{length, getD, drop, drop-of-length-le}
 use lib.Seq.{drop-cons}
-use Rattle.tiers.specs.Tiers.{Table, tagAt, setTable}
+use Rattle.tiers.specs.Tiers.{setTable}
+use Rattle.board.specs.Board.{Table, tagAt}
 use Rattle.rounds.specs.Graces.{runOut}
 
 pub run-none : (T : Table) → runOut T [] ≡ T

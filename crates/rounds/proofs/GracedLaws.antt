@@ -10,7 +10,8 @@ use Rattle.lists.specs.Keep.{Below}
 use Rattle.table.specs.Tag.{freshTag}
 use Rattle.table.specs.declared.tag.Grace.{Grace}
 use Rattle.table.specs.declared.tag.Tag.{Tag}
-use Rattle.tiers.specs.Tiers.{Table, tagAt, setTable}
+use Rattle.tiers.specs.Tiers.{setTable}
+use Rattle.board.specs.Board.{Table, tagAt, withTags}
 use Rattle.tiers.specs.Listed.{Listed}
 use Rattle.tiers.specs.Graced.{Graced}
 use Rattle.tiers.proofs.ListedLaws.{listed-set, set-long}
@@ -18,7 +19,7 @@ use Rattle.tiers.proofs.GracedLaws.{graced-set, graces-few}
 use Rattle.rounds.specs.Graces.{runOut}
 use Rattle.rounds.specs.Due.{marked}
 use Rattle.rounds.specs.Added.{settled}
-use Rattle.rounds.specs.Round.{Polling, Rooms, Round, withTags, round}
+use Rattle.rounds.specs.Round.{Polling, Rooms, Round, round}
 use Rattle.rounds.specs.declared.tick.Options.{Options}
 use Rattle.rounds.proofs.NameLaws.{expired-below}
 use Rattle.rounds.proofs.OnceLaws.{marked-part, marked-long, Whole, round-whole}

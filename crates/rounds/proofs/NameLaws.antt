@@ -13,7 +13,8 @@ use Rattle.names.specs.Keys.{byName}
 use Rattle.ranks.specs.Ranks.{over, keysOf}
 use Rattle.ranks.proofs.Laws.{sorted-by-name}
 use Rattle.table.specs.declared.tag.Tag.{Tag}
-use Rattle.tiers.specs.Tiers.{Table, tagAt, setTable}
+use Rattle.tiers.specs.Tiers.{setTable}
+use Rattle.board.specs.Board.{Table, tagAt}
 use Rattle.tiers.specs.Listed.{Listed}
 use Rattle.tiers.proofs.ListedLaws.{listed-set, order-below, set-long}
 use Rattle.slices.specs.Slice.{isTier2, tier2Tags}

@@ -13,21 +13,20 @@ use Rattle.ieee.specs.Round.{float, slicesOf}
 use Rattle.lists.specs.Keep.{keep, count, Below, upTo}
 use Rattle.lists.specs.Sort.{sort}
 use Rattle.lists.specs.Slices.{size, slice}
-use Rattle.lists.proofs.KeepLaws.{count-append, count-keep, count-keep-none, length-keep, below-append, below-keep, below-take, below-more}
+use Rattle.lists.proofs.KeepLaws.{count-take, count-append, count-keep, count-keep-none, length-keep, below-append, below-keep, below-take, below-more}
 use Rattle.lists.proofs.CountLaws.{length-few}
 use Rattle.lists.proofs.SortLaws.{count-sort, below-sort}
-use Rattle.tags.specs.Lists.{member}
+use Rattle.tags.specs.Lists.{member, fitted}
 use Rattle.table.specs.Tag.{freshTag}
-use Rattle.table.specs.Table.{withLast}
+use Rattle.table.specs.Table.{withLast, byRank}
 use Rattle.table.specs.declared.tag.Tag.{Tag}
-use Rattle.tiers.specs.Tiers.{Table, tagAt}
+use Rattle.board.specs.Board.{Table, tagAt}
 use Rattle.tiers.specs.Listed.{inTier, Listed}
 use Rattle.tiers.proofs.ListedLaws.{order-below}
-use Rattle.slices.specs.Room.{fitted}
 use Rattle.slices.specs.Slice.{isTier2, tier2Tags, sliceTaken}
 use Rattle.rounds.specs.Graces.{hasRunOut, runOut}
 use Rattle.rounds.specs.Due.{isDue, dueTags, marked}
-use Rattle.rounds.specs.Added.{isAdded, byRank, withAddedTags}
+use Rattle.rounds.specs.Added.{isAdded, withAddedTags}
 use Rattle.rounds.specs.Missing.{isHeldBack, notHeldBack}
 use Rattle.rounds.specs.Round.{Polling, Rooms, Round, round}
 use Rattle.rounds.specs.declared.tick.Options.{Options}
@@ -35,11 +34,6 @@ use Rattle.rounds.proofs.AddedLaws.{below-up-to}
 use Rattle.rounds.proofs.NameLaws.{listed-run-out, run-out-long, expired-below}
 
 -- ---- parts of a list
-
-pub count-take : (k n : ℕ) (l : List ℕ) → count k (take n l) ≤ count k l
-count-take k zero l = omega arith
-count-take k (suc n) [] = omega arith
-count-take k (suc n) (x ∷ l) = omega (arith, count-take k n l)
 
 count-drop : (k n : ℕ) (l : List ℕ) → count k (drop n l) ≤ count k l
 count-drop k zero l = omega arith

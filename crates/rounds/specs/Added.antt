@@ -1,14 +1,13 @@
 -- Rule 6: tags new in tier 2.
 use mathlib.Core.Bool.{Bool, true, false, not, _&&_, cond}
 use mathlib.Core.List.{List, [], _∷_, _++_}
-use Prim.Native.Nat.{ℕ, min}
-use lib.ListN.{length, getD}
-use Rattle.lists.specs.Keep.{keep, upTo}
-use Rattle.tags.specs.Lists.{member}
+use Prim.Native.Nat.{ℕ}
+use lib.ListN.{getD}
+use Rattle.lists.specs.Keep.{keep}
+use Rattle.tags.specs.Lists.{member, fitted}
 use Rattle.table.specs.Tag.{freshTag}
 use Rattle.table.specs.Table.{withAdded}
 use Rattle.table.specs.declared.tag.Tag.{Tag}
-use Rattle.slices.specs.Room.{fitted}
 
 abbrev pub isAdded : List Tag → List ℕ → ℕ → Bool
 isAdded tags listed k = getD tags k freshTag .added && not (member k listed)
@@ -17,10 +16,6 @@ isAdded tags listed k = getD tags k freshTag .added && not (member k listed)
 abbrev pub anyAdded : List Tag → Bool
 anyAdded [] = false
 anyAdded (x ∷ xs) = cond (x .added) true (anyAdded xs)
-
--- The tags of a table by rank, which is byte order. A list in memory holds tags below 65536; no directory has so many.
-abbrev pub byRank : List Tag → List ℕ
-byRank tags = upTo (min (length tags) 65536)
 
 -- Rule 6: then those of `tags` that are new in tier 2 and not listed yet.
 abbrev pub withAddedTags : ℕ → List Tag → List ℕ → List ℕ → List ℕ

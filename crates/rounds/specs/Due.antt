@@ -11,7 +11,7 @@ use Rattle.table.specs.Tag.{freshTag}
 use Rattle.table.specs.Table.{withLast}
 use Rattle.table.specs.declared.tag.Tag.{Tag}
 use Rattle.groups.specs.Groups.{Groups, noted}
-use Rattle.slices.specs.Room.{fitted}
+use Rattle.tags.specs.Lists.{fitted}
 use Rattle.rounds.specs.Tick.{rateOf}
 
 -- Rule 6: a tier-1 tag is due if now + tick/2 >= last + rate; never read is always due.

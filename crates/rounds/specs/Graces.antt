@@ -7,8 +7,9 @@ use lib.ListN.{getD}
 use Rattle.lists.specs.Keep.{keep}
 use Rattle.table.specs.Tag.{freshTag}
 use Rattle.table.specs.declared.tag.Tag.{Tag}
-use Rattle.tiers.specs.Tiers.{Table, tagAt, setTable}
-use Rattle.slices.specs.Room.{fitted}
+use Rattle.tiers.specs.Tiers.{setTable}
+use Rattle.board.specs.Board.{Table, tagAt}
+use Rattle.tags.specs.Lists.{fitted}
 
 abbrev pub hasRunOut : List Tag → Float → ℕ → Bool
 hasRunOut tags clock k = le (getD tags k freshTag .grace .deadline) clock

@@ -8,7 +8,7 @@ use Rattle.ieee.specs.Times.{heldBack}
 use Rattle.lists.specs.Keep.{keep}
 use Rattle.table.specs.Tag.{freshTag}
 use Rattle.table.specs.declared.tag.Tag.{Tag}
-use Rattle.slices.specs.Room.{fitted}
+use Rattle.tags.specs.Lists.{fitted}
 
 abbrev pub isHeldBack : Tag → Float → Bool
 isHeldBack x clock = x .timing .missing && heldBack (x .timing .retry) clock

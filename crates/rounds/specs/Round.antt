@@ -4,15 +4,16 @@ use mathlib.Core.List.{List, _++_, map}
 use Prim.Native.Nat.{ℕ}
 use lib.Ieee.{Float, binary64, div}
 use Rattle.ieee.specs.Round.{float, slicesOf}
-use Rattle.table.specs.declared.tag.Tag.{Tag}
-use Rattle.tiers.specs.Tiers.{Table}
+use Rattle.lists.specs.Sort.{byKeys}
+use Rattle.board.specs.Board.{Table, Board, withTags}
 use Rattle.groups.specs.Groups.{Groups}
-use Rattle.slices.specs.Room.{fitted}
+use Rattle.tags.specs.Lists.{fitted}
 use Rattle.slices.specs.Slice.{tier2Tags, sliceTaken, nextIndex}
 use Rattle.rounds.specs.Tick.{tickOf, boundaryAt}
 use Rattle.rounds.specs.Graces.{expiredAt, runOut}
 use Rattle.rounds.specs.Due.{dueTags, marked, recordedDue, noneSeen}
-use Rattle.rounds.specs.Added.{byRank, withAddedTags, settled}
+use Rattle.table.specs.Table.{byRank}
+use Rattle.rounds.specs.Added.{withAddedTags, settled}
 use Rattle.rounds.specs.Missing.{notHeldBack}
 use Rattle.rounds.specs.declared.tick.Options.{Options}
 use Rattle.rounds.specs.declared.tick.Cycle.{Cycle}
@@ -40,9 +41,6 @@ pub record Round : Type 0 where
   pub wanted : List ℕ
   pub list : List ℕ
   pub after : Polling
-
-abbrev pub withTags : Table → List Tag → Table
-withTags T tags = record { tags = tags; order = T .order; graces = T .graces; orderRoom = T .orderRoom; graceRoom = T .graceRoom; words = T .words }
 
 -- Rule 6: at a boundary the last boundary is now.
 abbrev pub cycleAfter : Cycle → Bool → Float → ℕ → Cycle
@@ -79,3 +77,15 @@ round less rooms o P clock =
         cycle = cycleAfter (P .cycle) boundary clock (nextIndex boundary S tier2 (P .cycle .index));
       };
     }
+
+-- the board after a round: the table and the groups, and the tags to read
+abbrev pub withPolled : Board → Polling → List ℕ → Board
+withPolled B P list = record { table = P .table; groups = P .groups; keys = B .keys; configured = B .configured; queue = B .queue; queueRoom = B .queueRoom; asked = list; askedRoom = B .askedRoom; back = B .back }
+
+-- Rule 6: what a round works on
+abbrev pub pollingOf : Board → Cycle → Polling
+pollingOf B c = record { table = B .table; groups = B .groups; cycle = c }
+
+-- Rule 6: a round at the clock reading. Its lists have the room of the one that is asked for.
+abbrev pub roundOf : Board → Options → Cycle → Float → Round
+roundOf B o c clock = round (byKeys (B .keys)) (record { sorted = B .askedRoom; wanted = B .askedRoom; list = B .askedRoom }) o (pollingOf B c) clock

@@ -2,8 +2,8 @@
 ghost use mathlib.Core.Path.{_≡_};
 ghost use mathlib.Core.List.{map};
 ghost use Rattle.tags.specs.Lists.{listIn, room};
-ghost use Rattle.table.specs.Table.{tableIn};
-ghost use Rattle.rounds.specs.Added.{anyAdded, byRank, withAddedTags, settled};
+ghost use Rattle.table.specs.Table.{tableIn, byRank};
+ghost use Rattle.rounds.specs.Added.{anyAdded, withAddedTags, settled};
 use fields::added_of;
 use fields::put_added;
 use tags::contains;

@@ -4,14 +4,15 @@ ghost use lib.ListN.{getD};
 ghost use Rattle.tags.specs.Lists.{listIn, room};
 ghost use Rattle.table.specs.Tag.{freshTag};
 ghost use Rattle.table.specs.Table.{tableIn};
-ghost use Rattle.groups.specs.Groups.{grouped};
+ghost use Rattle.board.specs.Layout.{IsBoard};
+ghost use Rattle.board.specs.Board.{Holds, boardIn, withGroups};
 ghost use Rattle.rounds.specs.Due.{isDue, dueTags, marked, recordedDue, noneSeen};
 use super::tick::rate_of;
+use board::recording::note;
 use fields::put_last;
 use fields::settings_of;
 use fields::tier_of;
 use fields::timing_of;
-use groups::note;
 use tags::at;
 use tags::clear;
 use tags::count;
@@ -61,17 +62,18 @@ pub fn mark_due(t: &mut [u8], list: &[u8], clock: f64)
 }
 
 // The groups of the tags of `list`.
-pub fn record_due(t: &[u8], list: &[u8], groups: &mut [u8], recorded: &mut [u8], clock: f64)
-    ensures { λ _. ⌜ grouped (now (groups .exit)) (now (recorded .exit)) ≡ recordedDue (tableIn (now (t .entry))) clock noneSeen (grouped (now (groups .entry)) (now (recorded .entry))) (listIn (now (list .entry))) ⌝ }
+pub fn record_due(b: &mut [u8], list: &[u8], clock: f64)
+    requires { ⌜ IsBoard (now b) ⌝ }
+    ensures { λ _. ⌜ Holds (now (b .exit)) (withGroups (boardIn (now (b .entry))) (recordedDue (boardIn (now (b .entry)) .table .tags) clock noneSeen (boardIn (now (b .entry)) .groups) (listIn (now (list .entry))))) ⌝ }
 {
     let mut seen = [false; 256];
     let n = count(list);
     let mut i: usize = 0;
     while i < n {
-        let s = settings_of(t, at(list, i));
+        let s = board::tag::settings_of(b, at(list, i));
         if s.grouped {
             let g = s.group as usize;
-            note(groups, recorded, s.group, s.rate, clock, !seen[g]);
+            note(b, s.group, s.rate, clock, !seen[g]);
             seen[g] = true;
         }
         i += 1;

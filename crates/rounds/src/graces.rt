@@ -2,8 +2,11 @@
 ghost use mathlib.Core.Path.{_≡_};
 ghost use Rattle.tags.specs.Lists.{listIn, room};
 ghost use Rattle.table.specs.Table.{tableIn};
-ghost use Rattle.tiers.specs.Tiers.{tabled};
+ghost use Rattle.board.specs.Layout.{IsBoard};
+ghost use Rattle.board.specs.Board.{Holds, boardIn, withTable};
 ghost use Rattle.rounds.specs.Graces.{expired, runOut, expiredAt};
+use board::parts::graces_of;
+use board::parts::table_of;
 use fields::grace_of;
 use tags::at;
 use tags::clear;
@@ -29,34 +32,28 @@ pub fn list_expired(t: &[u8], graces: &[u8], list: &mut [u8], clock: f64)
 }
 
 // Each tag of `list` goes where it was to go after its grace.
-pub fn run_out(t: &mut [u8], order: &mut [u8], graces: &mut [u8], words: &[u8], list: &[u8])
-    ensures { λ _. ⌜ tabled (now (t .exit)) (now (order .exit)) (now (graces .exit)) (now (words .entry)) ≡ runOut (tabled (now (t .entry)) (now (order .entry)) (now (graces .entry)) (now (words .entry))) (listIn (now (list .entry))) ⌝ }
+pub fn run_out(b: &mut [u8], list: &[u8])
+    requires { ⌜ IsBoard (now b) ⌝ }
+    ensures { λ _. ⌜ Holds (now (b .exit)) (withTable (boardIn (now (b .entry))) (runOut (boardIn (now (b .entry)) .table) (listIn (now (list .entry))))) ⌝ }
 {
     let n = count(list);
     let mut i: usize = 0;
     while i < n {
         let k = at(list, i);
-        let g = grace_of(t, k);
-        set(t, order, graces, words, (k % 65536) as u16, g.after);
+        let g = board::tag::grace_of(b, k);
+        set(b, (k % 65536) as u16, g.after);
         i += 1;
     }
 }
 
-// At a boundary the graces that are over run out; `scratch` is overwritten.
-pub fn expire(
-    t: &mut [u8],
-    order: &mut [u8],
-    graces: &mut [u8],
-    words: &[u8],
-    scratch: &mut [u8],
-    clock: f64,
-    boundary: bool,
-)
-    ensures { λ _. ⌜ tabled (now (t .exit)) (now (order .exit)) (now (graces .exit)) (now (words .entry)) ≡ runOut (tabled (now (t .entry)) (now (order .entry)) (now (graces .entry)) (now (words .entry))) (expiredAt boundary (room (now (scratch .entry))) (tableIn (now (t .entry))) (listIn (now (graces .entry))) clock) ⌝ }
+// At a boundary the graces that are over run out; `list` is overwritten.
+pub fn expire(b: &mut [u8], list: &mut [u8], clock: f64, boundary: bool)
+    requires { ⌜ IsBoard (now b) ⌝ }
+    ensures { λ _. ⌜ Holds (now (b .exit)) (withTable (boardIn (now (b .entry))) (runOut (boardIn (now (b .entry)) .table) (expiredAt boundary (room (now (list .entry))) (boardIn (now (b .entry)) .table .tags) (boardIn (now (b .entry)) .table .graces) clock))) ⌝ }
 {
     if !boundary {
         return;
     }
-    list_expired(t, graces, scratch, clock);
-    run_out(t, order, graces, words, scratch);
+    list_expired(table_of(b), graces_of(b), list, clock);
+    run_out(b, list);
 }

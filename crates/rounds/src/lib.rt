@@ -5,4 +5,5 @@ pub mod graces;
 pub mod missing;
 pub mod options;
 pub mod round;
+pub mod steps;
 pub mod tick;

@@ -1,27 +1,31 @@
 // Rule 6, whole: the Rust's `cycle_tags`.
 ghost use mathlib.Core.Path.{_≡_};
 ghost use mathlib.Core.List.{map};
-ghost use Rattle.lists.specs.Sort.{byKeys};
-ghost use Rattle.memory.specs.Halves.{halvesIn};
+ghost use lib.ListN.{length};
 ghost use Rattle.tags.specs.Lists.{listIn, room};
-ghost use Rattle.table.specs.Table.{tableIn};
-ghost use Rattle.rounds.specs.Added.{byRank, withAddedTags, settled};
+ghost use Rattle.board.specs.Layout.{IsBoard, partsIn, asked};
+ghost use Rattle.board.specs.Board.{Holds, boardIn, withRecords, withGroups, withAsked};
+ghost use Rattle.rounds.specs.Due.{dueTags, marked, recordedDue, noneSeen};
+ghost use Rattle.rounds.specs.Added.{withAddedTags, settled};
+ghost use Rattle.table.specs.Table.{byRank};
 ghost use Rattle.rounds.specs.Missing.{notHeldBack};
-ghost use Rattle.rounds.specs.Round.{cycleAfter, round};
-ghost use Rattle.rounds.specs.Memory.{pollingIn, roomsIn, Worked};
+ghost use Rattle.rounds.specs.Round.{cycleAfter, roundOf};
+ghost use Rattle.rounds.specs.Memory.{Worked};
 use super::added::any_added;
 use super::added::list_added;
-use super::added::settle;
-use super::due::list_due;
-use super::due::mark_due;
 use super::due::record_due;
 use super::graces::expire;
 use super::missing::drop_missing;
+use super::steps::list_due_in;
+use super::steps::mark_due_in;
+use super::steps::settle_in;
+use super::steps::take_slice_in;
+use super::steps::tick_in;
 use super::tick::Cycle;
 use super::tick::Options;
 use super::tick::is_boundary;
-use super::tick::tick_of;
-use slices::slice::take_slice;
+use board::parts::asked_of;
+use board::parts::table_of;
 
 pub struct CycleTags {
     pub tick: f64,
@@ -46,68 +50,75 @@ fn cycle_after(c: Cycle, boundary: bool, clock: f64, index: u64) -> Cycle
     }
 }
 
-// The new tags after what `wanted` has, and of all these the ones that are not held back into `list`. Then no tag is
-// new any more.
-fn list_round(t: &mut [u8], wanted: &mut [u8], list: &mut [u8], clock: f64)
-    ensures { λ _. ⌜ listIn (now (wanted .exit)) ≡ withAddedTags (room (now (wanted .entry))) (tableIn (now (t .entry))) (listIn (now (wanted .entry))) (byRank (tableIn (now (t .entry)))) ⌝ }
-    ensures { λ _. ⌜ listIn (now (list .exit)) ≡ notHeldBack (room (now (list .entry))) (tableIn (now (t .entry))) (listIn (now (wanted .exit))) clock ⌝ }
-    ensures { λ _. ⌜ tableIn (now (t .exit)) ≡ map settled (tableIn (now (t .entry))) ⌝ }
+// The due tags into `wanted`, with what is recorded of them.
+fn read_due(b: &mut [u8], wanted: &mut [u8], clock: f64, half: f64, cycle: f64)
+    requires { ⌜ IsBoard (now b) ⌝ }
+    ensures { λ _. ⌜ listIn (now (wanted .exit)) ≡ dueTags (room (now (wanted .entry))) (boardIn (now (b .entry)) .table .tags) (boardIn (now (b .entry)) .table .order) clock half cycle ⌝ }
+    ensures { λ _. ⌜ Holds (now (b .exit))
+        (withGroups (withRecords (boardIn (now (b .entry))) (marked (boardIn (now (b .entry)) .table .tags) clock (listIn (now (wanted .exit)))))
+        (recordedDue (marked (boardIn (now (b .entry)) .table .tags) clock (listIn (now (wanted .exit)))) clock noneSeen (boardIn (now (b .entry)) .groups) (listIn (now (wanted .exit))))) ⌝ }
 {
-    if any_added(t) {
-        list_added(t, wanted);
-        drop_missing(t, wanted, list, clock);
-        settle(t);
-        return;
-    }
-    drop_missing(t, wanted, list, clock);
+    list_due_in(b, wanted, clock, half, cycle);
+    mark_due_in(b, wanted, clock);
+    record_due(b, wanted, clock);
 }
 
-// A round at the clock time `clock`: the tags to read go into `list`. `sorted` and `wanted` are room to work in.
-pub fn cycle_tags(
-    t: &mut [u8],
-    order: &mut [u8],
-    graces: &mut [u8],
-    words: &[u8],
-    keys: &[u8],
-    groups: &mut [u8],
-    recorded: &mut [u8],
+// The new tags go after what `wanted` has, and of all these the ones that are not held back are asked for. Then no tag is
+// new any more.
+fn list_round(b: &mut [u8], wanted: &mut [u8], clock: f64)
+    requires { ⌜ IsBoard (now b) ⌝ }
+    ensures { λ _. ⌜ Holds (now (b .exit))
+        (withAsked (withRecords (boardIn (now (b .entry))) (map settled (boardIn (now (b .entry)) .table .tags)))
+        (notHeldBack (boardIn (now (b .entry)) .askedRoom) (boardIn (now (b .entry)) .table .tags)
+        (withAddedTags (room (now (wanted .entry))) (boardIn (now (b .entry)) .table .tags) (listIn (now (wanted .entry))) (byRank (boardIn (now (b .entry)) .table .tags))) clock)) ⌝ }
+{
+    if any_added(table_of(b)) {
+        list_added(table_of(b), wanted);
+        drop_missing(b, wanted, clock);
+        settle_in(b);
+        return;
+    }
+    drop_missing(b, wanted, clock);
+}
+
+// The round, with two lists to work in.
+fn cycle_in(
+    b: &mut [u8],
     sorted: &mut [u8],
     wanted: &mut [u8],
-    list: &mut [u8],
     o: Options,
     c: Cycle,
     clock: f64,
 ) -> CycleTags
-    ensures { λ r. ⌜ Worked
-        (round (byKeys (halvesIn (now (keys .entry)))) (roomsIn (now (sorted .entry)) (now (wanted .entry)) (now (list .entry))) o
-        (pollingIn (now (t .entry)) (now (order .entry)) (now (graces .entry)) (now (words .entry)) (now (groups .entry)) (now (recorded .entry)) c) clock)
-        (r .tick) (r .boundary) (listIn (now (wanted .exit))) (listIn (now (list .exit)))
-        (pollingIn (now (t .exit)) (now (order .exit)) (now (graces .exit)) (now (words .entry)) (now (groups .exit)) (now (recorded .exit)) (r .cycle)) ⌝ }
+    requires { ⌜ IsBoard (now b) ⌝ }
+    requires { ⌜ length (now sorted) ≡ length (partsIn (now b) asked) ⌝ }
+    requires { ⌜ length (now wanted) ≡ length (partsIn (now b) asked) ⌝ }
+    ensures { λ r. ⌜ Worked (boardIn (now (b .entry))) (roundOf (boardIn (now (b .entry))) o c clock) r (now (b .exit)) ⌝ }
 {
     let cycle = o.cycle;
-    let tick = tick_of(t, order, cycle);
+    let tick = tick_in(b, cycle);
     let half = tick / 2.0;
     let boundary = is_boundary(c, clock, half, cycle);
-    expire(t, order, graces, words, wanted, clock, boundary);
-    list_due(t, order, wanted, clock, half, cycle);
-    mark_due(t, wanted, clock);
-    record_due(t, wanted, groups, recorded, clock);
-    let index = take_slice(
-        t,
-        order,
-        keys,
-        sorted,
-        wanted,
-        o.period,
-        cycle,
-        c.index,
-        boundary,
-    );
-    list_round(t, wanted, list, clock);
+    expire(b, wanted, clock, boundary);
+    read_due(b, wanted, clock, half, cycle);
+    let index = take_slice_in(b, sorted, wanted, o, c.index, boundary);
+    list_round(b, wanted, clock);
     let after = cycle_after(c, boundary, clock, index);
     CycleTags {
         tick: tick,
         boundary: boundary,
         cycle: after,
     }
+}
+
+// A round at the clock time `clock`: the tags to read are those asked for. The lists it works in are as long as the
+// board's.
+pub fn cycle_tags(b: &mut [u8], o: Options, c: Cycle, clock: f64) -> CycleTags
+    requires { ⌜ IsBoard (now b) ⌝ }
+    ensures { λ r. ⌜ Worked (boardIn (now (b .entry))) (roundOf (boardIn (now (b .entry))) o c clock) r (now (b .exit)) ⌝ }
+{
+    let mut sorted = [0u8; 2048];
+    let mut wanted = [0u8; 2048];
+    let n = asked_of(b).len();
+    cycle_in(b, &mut sorted[0..n], &mut wanted[0..n], o, c, clock)
 }

@@ -13,6 +13,7 @@ use tags::at;
 use tags::count;
 
 // In seconds.
+#[repr(C)]
 pub struct Options {
     pub cycle: f64,
     pub period: f64,

@@ -9,7 +9,7 @@ use Rattle.settings.specs.Records.{recordsOf, recordsIn, every}
 use Rattle.settings.specs.Settings.{maxGroups, rateOk}
 use Rattle.settings.specs.declared.configured.Configured.{Configured}
 
--- A group is two cells: its number and its rate.
+-- A group is two cells: its number, and its rate in the low 32 bits.
 unfoldable pub configuredFrom : List ℕ → Configured
 configuredFrom ws = record { number = getD ws 0 0 % 256; rate = getD ws 1 0 % 0x1_0000_0000 }
 

@@ -1,8 +1,8 @@
 -- Check 14: the settings of the tags, as the host lends them.
-use mathlib.Core.Bool.{Bool, _&&_, _||_}
+use mathlib.Core.Bool.{Bool, not, _&&_, _||_}
 use mathlib.Core.List.{List, map}
-use Prim.Native.Nat.{ℕ, _*_, _-_, _/_}
-use lib.Dec.{eqb, ltb, leb}
+use Prim.Native.Nat.{ℕ, _*_, _-_, _/_, _%_}
+use lib.Dec.{eqb, leb}
 use lib.Ieee.{binary64, ofBits}
 use lib.Ieee.Scale.{finite}
 use lib.ListN.{length, getD}
@@ -11,7 +11,7 @@ use Rattle.table.specs.Row.{settingsFrom}
 use Rattle.table.specs.declared.tag.Settings.{Settings}
 use Rattle.settings.specs.Records.{recordsIn, every}
 
--- A setting is four cells: the bits of its deadband; its group and 1, 0 for none; its rate; whether a description is set.
+-- A setting is four cells: the bits of its deadband; its group and 1, 0 for none; its rate, in the low 32 bits; whether a description is set.
 unfoldable pub settingFrom : List ℕ → Settings
 settingFrom ws = settingsFrom (getD ws 0 0) (getD ws 1 0) (getD ws 1 0 - 1) (getD ws 2 0) (getD ws 3 0)
 
@@ -26,9 +26,9 @@ settingIn bs i = getD (map settingFrom (recordsIn 4 bs)) i noSettings
 abbrev pub maxGroups : ℕ
 maxGroups = 16
 
--- Check 14: a rate is 1 to 2^32 - 1 milliseconds
+-- Check 14: a rate is 1 to 2^32 - 1 milliseconds, in the low 32 bits of its cell; the others are not looked at
 abbrev pub rateOk : ℕ → Bool
-rateOk rate = ltb 0 rate && ltb rate 0x1_0000_0000
+rateOk rate = not (eqb (rate % 0x1_0000_0000) 0)
 
 -- Check 14: the deadband is finite, and a group is at most 15, with a rate that isn't 0
 unfoldable pub settingOk : List ℕ → Bool

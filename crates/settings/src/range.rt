@@ -6,13 +6,11 @@ ghost use Rattle.settings.specs.Configured.{groupOk};
 use ieee::number::is_finite;
 use words::scalar::float_of_word;
 
+// The low 32 bits of the cell are the rate.
 fn is_rate(rate: u64) -> bool
     ensures { λ r. ⌜ r ≡ rateOk rate ⌝ }
 {
-    if rate == 0 {
-        return false;
-    }
-    rate < 0x1_0000_0000
+    rate % 0x1_0000_0000 != 0
 }
 
 // Without a group the rate does not count.

@@ -1,24 +1,29 @@
 -- What looks answer, by the room of a lent list.
 use mathlib.Core.Bool.{false, cond}
 use mathlib.Core.List.{List, _++_}
-use mathlib.Core.Path.{_≡_, refl, ap, sym, _∙_}
+use mathlib.Core.Path.{_≡_, refl, sym, _∙_}
 use Prim.Native.Nat.{ℕ, _/_, _≤_, _<_}
 use native.Mathlib.Omega.{arith}
 use borrow.Author.Tests.{lt-ltb, le-ltb, le-leb}
 use lib.Dec.{eqb}
 use lib.ListN.{length, drop}
-use Rattle.table.proofs.RowLaws.{length-table}
 use Rattle.panel.specs.Panel.{panelRoom, written}
 use Rattle.panel.proofs.WriteLaws.{length-panel, full-length}
-use Rattle.lent.specs.Lent.{records, wroteAll, wroteCells}
-use Rattle.lent.proofs.LentLaws.{all-fits, length-records}
-use Rattle.statistics.specs.Stats.{groupsOf}
+use Rattle.lent.specs.Lent.{cellBytes, overBytes, records, wroteAll}
+use Rattle.lent.proofs.LentLaws.{cells-fit, length-records}
+use Rattle.statistics.specs.Stats.{facts, groupsOf}
 use Rattle.statistics.proofs.StatLaws.{told-few}
-use Rattle.board.specs.Board.{Board, boardOf, boardIn, factsOf, rowCells}
-use Rattle.board.specs.Regions.{part, boardSize, regionsIn}
-use Rattle.board.proofs.Laws.{part-length}
-use Rattle.shown.specs.Looks.{listed, shortOf, groupCells, groupCount, panelBytes, panelCount}
+use Rattle.board.specs.Layout.{table, order, configured, groups, recorded, partsIn}
+use Rattle.board.specs.Board.{Board, boardFrom, boardIn}
+use Rattle.shown.specs.Looks.{listed, shortOf, groupCells, groupCount, panelBytes, panelCount, factsOf, rowCells}
 use Rattle.shown.specs.declared.lists.ListLook.{ListLook}
+
+-- ---- what statistics go by, part by part of the board
+
+pub facts-read : (bs t o f g r : List ℕ) → t ≡ partsIn bs table → o ≡ partsIn bs order → f ≡ partsIn bs configured → g ≡ partsIn bs groups → r ≡ partsIn bs recorded
+    → facts t o f g r ≡ factsOf (boardIn bs)
+unfolding boardIn boardFrom
+facts-read bs t o f g r e1 e2 e3 e4 e5 = rw (e1, e2, e3, e4, e5) refl
 
 -- ---- check 43
 
@@ -27,11 +32,6 @@ short places asked h = rw (lt-ltb places asked h) refl
 
 pub enough : (places asked : ℕ) → asked ≤ places → shortOf places asked ≡ 0
 enough places asked h = rw (le-ltb places asked h) refl
-
--- a table has 120 records
-pub table-long : (bs : List ℕ) → length bs ≡ boardSize → length (boardIn bs .table .tags) ≡ 120
-unfolding boardIn boardOf regionsIn
-table-long bs h = length-table (part 7424 30720 bs) ∙ ap (λ (n : ℕ). n / 256) (part-length 7424 30720 bs (omega (arith, h)))
 
 -- ---- a lent list, and how many it has
 
@@ -44,13 +44,13 @@ given code n out new done r e s t = (s ∙ rw e refl, t ∙ rw e refl)
 -- ---- an engine's own lists fit: where it has at most n of them, and the room is that of n, they are told whole
 
 pub groups-told : (B : Board) (out : List ℕ) (n : ℕ) → length (groupsOf (factsOf B)) ≤ n → n ≤ length out / 40
-    → (groupCount B out ≡ length (groupsOf (factsOf B))) × (wroteAll out (groupCells B) ≡ wroteCells out (groupCells B))
+    → (groupCount B out ≡ length (groupsOf (factsOf B))) × (wroteAll out (cellBytes (groupCells B)) ≡ overBytes out (cellBytes (groupCells B)))
 groups-told B out n few h = told-few (factsOf B) out n few (omega arith)
 
 pub table-told : (B : Board) (out : List ℕ) (n : ℕ) → length (B .table .order) ≤ n → n ≤ length out / 16
-    → wroteAll out (records (rowCells B) (B .table .order)) ≡ wroteCells out (records (rowCells B) (B .table .order))
+    → wroteAll out (cellBytes (records (rowCells B) (B .table .order))) ≡ overBytes out (cellBytes (records (rowCells B) (B .table .order)))
 table-told B out n few h =
-    all-fits out (records (rowCells B) (B .table .order)) (omega (arith, length-records (rowCells B) 2 (λ k. refl) (B .table .order)))
+    cells-fit out (records (rowCells B) (B .table .order)) (omega (arith, length-records (rowCells B) 2 (λ k. refl) (B .table .order)))
 
 pub panel-told : (B : Board) (out : List ℕ) (n : ℕ) → length (B .table .order) ≤ n → panelRoom n ≤ length out
     → (panelCount B out ≡ length (panelBytes B)) × (written out (panelBytes B) ≡ panelBytes B ++ drop (length (panelBytes B)) out)

@@ -1,6 +1,6 @@
 -- What looks answer, by the head and the board, and what they leave in a lent list.
 use mathlib.Core.Bool.{cond}
-use mathlib.Core.List.{List}
+use mathlib.Core.List.{List, [], _∷_}
 use Prim.Native.Nat.{ℕ, _+_, _/_}
 use lib.Dec.{eqb, ltb, leb}
 use lib.Ieee.{binary64, ofBits}
@@ -10,17 +10,16 @@ use Rattle.words.specs.Entry.{heldWordsOf}
 use Rattle.table.specs.declared.tag.Tag.{Tag}
 use Rattle.table.specs.declared.tag.Description.{Description}
 use Rattle.table.specs.declared.tag.Description.the-variants.{Unknown, Nothing, Is}
-use Rattle.tiers.specs.Tiers.{tagAt}
 use Rattle.panel.specs.Panel.{panelOf, written, writtenLength}
-use Rattle.lent.specs.Lent.{wroteAll}
+use Rattle.lent.specs.Lent.{cellBytes, wroteAll}
 use Rattle.statistics.specs.Counts.{tierCount}
-use Rattle.statistics.specs.Stats.{groupStats, groupsTold}
+use Rattle.statistics.specs.Stats.{Facts, groupStats, groupsTold}
 use Rattle.versions.specs.declared.version.Version.{Version}
 use Rattle.versions.specs.declared.version.Version.the-variants.{Null as NoVersion, Is as AVersion}
 use Rattle.heads.specs.Link.{stateNumber}
 use Rattle.heads.specs.declared.link.Link.{Link}
 use Rattle.heads.specs.declared.stats.Stats.{Stats}
-use Rattle.board.specs.Board.{Board, factsOf}
+use Rattle.board.specs.Board.{Board, tagAt}
 use Rattle.shown.specs.declared.head.StateLook.{StateLook}
 use Rattle.shown.specs.declared.head.StatsLook.{StatsLook}
 use Rattle.shown.specs.declared.counts.CountsLook.{CountsLook}
@@ -85,7 +84,15 @@ shortOf places asked = cond (ltb places asked) 43 0
 
 -- what the lent list holds: the cells where nothing refuses
 abbrev pub leftIn : ℕ → List ℕ → List ℕ → List ℕ
-leftIn code out cells = cond (eqb code 0) (wroteAll out cells) out
+leftIn code out cells = cond (eqb code 0) (wroteAll out (cellBytes cells)) out
+
+-- Rule 10: what the group statistics go by
+abbrev pub factsOf : Board → Facts
+factsOf B = record { tags = B .table .tags; order = B .table .order; configured = B .configured; groups = B .groups .groups; recorded = B .groups .recorded }
+
+-- a tag of the table and its tier
+abbrev pub rowCells : Board → ℕ → List ℕ
+rowCells B k = k ∷ tagAt (B .table) k .tier ∷ []
 
 -- Rule 10: group statistics, five cells each; 16 places are asked for
 abbrev pub groupCells : Board → List ℕ
@@ -99,15 +106,15 @@ groupCount B out = groupsTold out (factsOf B)
 abbrev pub fitting : ℕ → ℕ → ℕ
 fitting n places = cond (ltb places n) 0 n
 
--- how many tags the table lists; as many places are asked for as there are tags at most. An engine has 120 at most, but other bytes can list more, and then none is written
+-- how many tags the table lists; a place for every name that a directory can have is asked for. An engine lists no more, but other bytes can, and then none is written
 abbrev pub tableCount : Board → List ℕ → ℕ
 tableCount B out = fitting (length (B .table .order)) (length out / 16)
 
--- Rule 11: the panel list; the room asked for is that of a list of all tags
+-- Rule 11: the panel list; the room asked for is that of a list of as many tags as a directory can have
 abbrev pub panelBytes : Board → List ℕ
 panelBytes B = panelOf (B .table .tags) (B .table .order)
 
--- its length; an engine has 120 tags at most, which the room asked for holds, but other bytes can list more, and then none is written
+-- its length; an engine lists no more tags, but other bytes can, and then none is written
 abbrev pub panelCount : Board → List ℕ → ℕ
 panelCount B out = writtenLength out (panelBytes B)
 
@@ -124,10 +131,10 @@ descriptionCell (Is n) = n + 2
 abbrev pub tagOf : Tag → TagLook
 tagOf x =
     let w = heldWordsOf (x .cached) in
-    record { code = 0; tier = x .tier; held = w .held; kind = w .kind; word = w .word; t = w .t; error = w .error; message = w .message; description = descriptionCell (x .description) }
+    record { code = 0; tier = x .tier; held = w .held; kind = w .kind; word = w .word; t = w .t; error = w .error; message = w .message; «has_g» = 0; g = 0; description = descriptionCell (x .description) }
 
 abbrev pub noLook : ℕ → TagLook
-noLook code = record { code = code; tier = 0; held = 0; kind = 0; word = 0; t = 0; error = 0; message = 0; description = 0 }
+noLook code = record { code = code; tier = 0; held = 0; kind = 0; word = 0; t = 0; error = 0; message = 0; «has_g» = 0; g = 0; description = 0 }
 
 -- Check 23: there are `count` tags
 abbrev pub tagFound : Board → ℕ → ℕ → TagLook

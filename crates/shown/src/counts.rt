@@ -1,7 +1,6 @@
 // How many tags are in each tier.
 ghost use mathlib.Core.Path.{_≡_};
-ghost use lib.ListN.{length};
-ghost use Rattle.board.specs.Regions.{boardSize};
+ghost use Rattle.board.specs.Layout.{IsBoard};
 ghost use Rattle.board.specs.Board.{boardIn};
 ghost use Rattle.shown.specs.Looks.{countsOf, noCounts};
 
@@ -14,12 +13,12 @@ pub struct CountsLook {
 }
 
 pub fn counts_of(board: &[u8]) -> CountsLook
-    requires { ⌜ length (now board) ≡ boardSize ⌝ }
+    requires { ⌜ IsBoard (now board) ⌝ }
     ensures { λ r. ⌜ r ≡ countsOf (boardIn (now (board .entry))) ⌝ }
 {
-    let one = board::looks::tier_count(board, 1);
-    let two = board::looks::tier_count(board, 2);
-    let three = board::looks::tier_count(board, 3);
+    let one = super::found::tier_count(board, 1);
+    let two = super::found::tier_count(board, 2);
+    let three = super::found::tier_count(board, 3);
     CountsLook {
         code: 0,
         tier1: one as u64,

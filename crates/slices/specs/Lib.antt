@@ -1,3 +1,2 @@
--- Rule 6: slices, and what a list has room for.
-pub mod Room
+-- Rule 6: slices.
 pub mod Slice

@@ -10,7 +10,7 @@ use Rattle.groups.specs.Groups.{freshGroup, groupsIn}
 use Rattle.groups.specs.declared.group.Group.{Group}
 use Rattle.settings.specs.Configured.{configuredIn}
 use Rattle.settings.specs.declared.configured.Configured.{Configured}
-use Rattle.lent.specs.Lent.{hasRoom, records}
+use Rattle.lent.specs.Lent.{cellBytes, hasRoom, records}
 use Rattle.statistics.specs.Counts.{groupTags}
 use Rattle.statistics.specs.Numbers.{groupNumbers}
 use Rattle.statistics.specs.Rate.{groupRate}
@@ -48,4 +48,4 @@ groupStats F = records (statCells F) (groupsOf F)
 
 -- how many groups are told of: none where there is no room for all of them
 unfoldable pub groupsTold : List ℕ → Facts → ℕ
-groupsTold out F = cond (hasRoom out (groupStats F)) (length (groupsOf F)) 0
+groupsTold out F = cond (hasRoom out (cellBytes (groupStats F))) (length (groupsOf F)) 0

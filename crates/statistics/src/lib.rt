@@ -5,7 +5,7 @@ pub mod period;
 pub mod rate;
 
 ghost use mathlib.Core.Path.{_≡_};
-ghost use Rattle.lent.specs.Lent.{recordPut, wroteAll};
+ghost use Rattle.lent.specs.Lent.{cellBytes, recordPut, wroteAll};
 ghost use Rattle.statistics.specs.Stats.{facts, statCells, groupStats, groupsTold};
 use counts::group_tags;
 use groups::group_of;
@@ -50,7 +50,7 @@ pub fn group_stats(
     out: &mut [u8],
 ) -> usize
     ensures { λ r. ⌜ r ≡ groupsTold (now (out .entry)) (facts (now (t .entry)) (now (order .entry)) (now (configured .entry)) (now (groups .entry)) (now (recorded .entry))) ⌝ }
-    ensures { λ _. ⌜ now (out .exit) ≡ wroteAll (now (out .entry)) (groupStats (facts (now (t .entry)) (now (order .entry)) (now (configured .entry)) (now (groups .entry)) (now (recorded .entry)))) ⌝ }
+    ensures { λ _. ⌜ now (out .exit) ≡ wroteAll (now (out .entry)) (cellBytes (groupStats (facts (now (t .entry)) (now (order .entry)) (now (configured .entry)) (now (groups .entry)) (now (recorded .entry))))) ⌝ }
 {
     let n = group_count(configured, recorded);
     if out.len() / 40 < n {

@@ -1,7 +1,5 @@
 // Lines from standard input, read in pieces.
-use super::calls::take_round;
-use super::calls::take_set;
-use super::setup::begin;
+use super::calls::take_call;
 use super::setup::take_name;
 use super::setup::take_options;
 use super::state::Next;
@@ -9,42 +7,26 @@ use super::state::State;
 use libc::STDIN_FILENO;
 use listing::line::Line;
 use listing::line::parse;
+use names::directory::MAX_NAME_LENGTH;
+use names::directory::MAX_NAMES;
 
 // The longest line of any form has 49 bytes.
 const LINE: usize = 64;
 
-const TAGS: usize = 120;
+// Room for the names of the largest directory.
+const NAMES: usize = MAX_NAMES * MAX_NAME_LENGTH;
 
-const LIST: usize = 242;
+// The bytes of a board for MAX_NAMES tags.
+const BOARD: usize = 34806;
 
 // What a whole line does.
-fn take_line(
-    s: State,
-    line: &[u8],
-    buffer: &mut [u8],
-    ends: &mut [u32],
-    keys: &mut [u8],
-    words: &mut [u8],
-    t: &mut [u8],
-    order: &mut [u8],
-    graces: &mut [u8],
-) -> Next {
-    match parse(line) {
+fn take_line(s: State, line: &[u8], buffer: &mut [u8], ends: &mut [u32], mem: &mut [u8]) -> Next {
+    let l = parse(line);
+    match l {
         Line::Options(cycle, period, grace) => take_options(s, cycle, period, grace),
         Line::Name => take_name(s, line, buffer, ends),
-        Line::Set(ms, tag, tier) => {
-            let Next::On(ready) = begin(s, buffer, ends, keys, words) else {
-                return Next::End;
-            };
-            take_set(ready, ms, tag, tier, t, order, graces, words)
-        }
-        Line::Round(ms) => {
-            let Next::On(ready) = begin(s, buffer, ends, keys, words) else {
-                return Next::End;
-            };
-            take_round(ready, ms, t, order, graces, words, keys)
-        }
         Line::Other => Next::End,
+        _ => take_call(s, l, buffer, ends, mem),
     }
 }
 
@@ -62,11 +44,7 @@ fn take_byte(
     line: &mut [u8],
     buffer: &mut [u8],
     ends: &mut [u32],
-    keys: &mut [u8],
-    words: &mut [u8],
-    t: &mut [u8],
-    order: &mut [u8],
-    graces: &mut [u8],
+    mem: &mut [u8],
 ) -> Step {
     if line.len() <= n {
         return Step::End;
@@ -75,8 +53,7 @@ fn take_byte(
         line[n] = b;
         return Step::On(s, n + 1);
     }
-    let Next::On(next) = take_line(s, &line[0..n], buffer, ends, keys, words, t, order, graces)
-    else {
+    let Next::On(next) = take_line(s, &line[0..n], buffer, ends, mem) else {
         return Step::End;
     };
     Step::On(next, 0)
@@ -90,29 +67,13 @@ fn take_piece(
     line: &mut [u8],
     buffer: &mut [u8],
     ends: &mut [u32],
-    keys: &mut [u8],
-    words: &mut [u8],
-    t: &mut [u8],
-    order: &mut [u8],
-    graces: &mut [u8],
+    mem: &mut [u8],
 ) -> Step {
     let mut s = start;
     let mut n = have;
     let mut i: usize = 0;
     while i < piece.len() {
-        let Step::On(next, m) = take_byte(
-            s,
-            n,
-            piece[i],
-            line,
-            buffer,
-            ends,
-            keys,
-            words,
-            t,
-            order,
-            graces,
-        ) else {
+        let Step::On(next, m) = take_byte(s, n, piece[i], line, buffer, ends, mem) else {
             return Step::End;
         };
         s = next;
@@ -130,30 +91,14 @@ fn read_some(
     line: &mut [u8],
     buffer: &mut [u8],
     ends: &mut [u32],
-    keys: &mut [u8],
-    words: &mut [u8],
-    t: &mut [u8],
-    order: &mut [u8],
-    graces: &mut [u8],
+    mem: &mut [u8],
 ) -> Step {
     let got = libc::read(STDIN_FILENO, piece);
     let n = io::count(got, piece);
     if n == 0 {
         return Step::End;
     }
-    take_piece(
-        s,
-        have,
-        &piece[0..n],
-        line,
-        buffer,
-        ends,
-        keys,
-        words,
-        t,
-        order,
-        graces,
-    )
+    take_piece(s, have, &piece[0..n], line, buffer, ends, mem)
 }
 
 // A proved loop has to end, and nothing says that the input does: the turns are more than any run has.
@@ -163,29 +108,13 @@ fn read_all(
     line: &mut [u8],
     buffer: &mut [u8],
     ends: &mut [u32],
-    keys: &mut [u8],
-    words: &mut [u8],
-    t: &mut [u8],
-    order: &mut [u8],
-    graces: &mut [u8],
+    mem: &mut [u8],
 ) {
     let mut s = start;
     let mut n: usize = 0;
     let mut turns = u64::MAX;
     while 0 < turns {
-        let Step::On(next, m) = read_some(
-            s,
-            n,
-            piece,
-            line,
-            buffer,
-            ends,
-            keys,
-            words,
-            t,
-            order,
-            graces,
-        ) else {
+        let Step::On(next, m) = read_some(s, n, piece, line, buffer, ends, mem) else {
             return;
         };
         s = next;
@@ -198,24 +127,9 @@ fn read_all(
 pub fn read_input() {
     let mut piece = [0u8; 4096];
     let mut line = [0u8; LINE];
-    let mut buffer = [0u8; 4800];
-    let mut ends = [0u32; TAGS];
-    let mut keys = [0u8; 240];
-    let mut words = [0u8; 240];
-    let mut t = [0u8; 30720];
-    let mut order = [0u8; LIST];
-    let mut graces = [0u8; LIST];
+    let mut buffer = [0u8; NAMES];
+    let mut ends = [0u32; MAX_NAMES];
+    let mut mem = [0u8; BOARD];
     let s = State::new();
-    read_all(
-        s,
-        &mut piece,
-        &mut line,
-        &mut buffer,
-        &mut ends,
-        &mut keys,
-        &mut words,
-        &mut t,
-        &mut order,
-        &mut graces,
-    );
+    read_all(s, &mut piece, &mut line, &mut buffer, &mut ends, &mut mem);
 }

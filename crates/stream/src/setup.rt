@@ -1,6 +1,9 @@
 // Options and names.
+ghost use Rattle.board.specs.Layout.{IsBoard};
 use super::state::Next;
 use super::state::State;
+use board::starts::tags_in;
+use fresh::create;
 use ieee::times::seconds;
 use names::directory::MAX_NAME_LENGTH;
 use names::directory::MAX_NAMES;
@@ -84,14 +87,10 @@ pub fn take_name(s: State, line: &[u8], buffer: &mut [u8], ends: &mut [u32]) -> 
     })
 }
 
-// The first `s` or `c`: the directory is whole, and is checked.
-pub fn begin<'a>(
-    s: State,
-    buffer: &'a [u8],
-    ends: &'a [u32],
-    keys: &mut [u8],
-    words: &mut [u8],
-) -> Next {
+// The first `s` or `c`: the directory is whole, and is checked. No settings are set, and no groups.
+pub fn begin<'a>(s: State, buffer: &'a [u8], ends: &'a [u32], b: &mut [u8]) -> Next
+    requires { ⌜ IsBoard (now b) ⌝ }
+{
     if s.stage == 2 {
         return Next::On(s);
     }
@@ -106,13 +105,15 @@ pub fn begin<'a>(
     if buffer.len() < used {
         return Next::End;
     }
+    if tags_in(b) != count {
+        return Next::End;
+    }
     let n = &buffer[0..used];
     let e = &ends[0..count];
     if directory::check_in(n, e) != 0 {
         return Next::End;
     }
-    ranks::fill_keys(n, e, keys);
-    ranks::fill_words(n, e, words);
+    create(b, n, e, b"", b"");
     let o = s.options;
     let c = s.cycle;
     Next::On(State {

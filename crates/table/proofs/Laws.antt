@@ -27,8 +27,8 @@ pub tag-coded : (x : Tag) (tier on deadline after read last missing retry added 
     → heldFrom c ≡ x .cached → heldFrom p ≡ x .published
     → tagFrom (
     tier ∷ on ∷ deadline ∷ after ∷ read ∷ last ∷ missing ∷ retry ∷ added ∷ wants ∷ description ∷ band ∷ grouped ∷ group ∷ rate ∷ described
-    ∷ c .held ∷ c .kind ∷ c .word ∷ c .t ∷ c .error ∷ c .message
-    ∷ p .held ∷ p .kind ∷ p .word ∷ p .t ∷ p .error ∷ p .message ∷ 0 ∷ 0 ∷ 0 ∷ 0 ∷ []
+    ∷ c .held ∷ c .kind ∷ c .word ∷ c .t ∷ c .error ∷ c .message ∷ 0 ∷ 0
+    ∷ p .held ∷ p .kind ∷ p .word ∷ p .t ∷ p .error ∷ p .message ∷ 0 ∷ 0 ∷ []
     ) ≡ x
 unfolding tagFrom
 tag-coded x tier on deadline after read last missing retry added wants description band grouped group rate described c p e1 e2 e3 e4 e5 e6 e7 e8 e9 e10 e11 e12 e13 e14 e15 e16 e17 e18 =

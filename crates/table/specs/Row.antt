@@ -1,4 +1,4 @@
--- The tag that a row of 32 cells holds. Cells 28 to 31 are spare.
+-- The tag that a row of 32 cells holds. The cached entry begins at cell 16, the published one at cell 24; the two cells behind each are spare.
 use mathlib.Core.Bool.{cond}
 use mathlib.Core.List.{List}
 use Prim.Native.Nat.{ℕ, _+_, _-_, _%_}
@@ -51,5 +51,5 @@ tagFrom ws = record {
   description = descriptionFrom (getD ws 10 0);
   settings = settingsFrom (getD ws 11 0) (getD ws 12 0) (getD ws 13 0) (getD ws 14 0) (getD ws 15 0);
   cached = heldFrom (entryWordsAt ws 16);
-  published = heldFrom (entryWordsAt ws 22);
+  published = heldFrom (entryWordsAt ws 24);
 }

@@ -1,8 +1,10 @@
--- The tags that lent memory holds, and a tag with one part replaced.
+-- The tags that lent memory holds, by rank, and a tag with one part replaced.
 use mathlib.Core.Bool.{Bool, true, false}
 use mathlib.Core.List.{List, map}
-use Prim.Native.Nat.{ℕ}
+use Prim.Native.Nat.{ℕ, min}
 use lib.Ieee.{Float}
+use lib.ListN.{length}
+use Rattle.lists.specs.Keep.{upTo}
 use Rattle.memory.specs.Cells.{rowsIn}
 use Rattle.values.specs.declared.entry.Entry.{Entry}
 use Rattle.values.specs.declared.entry.Held.the-variants.{None, Is}
@@ -16,6 +18,10 @@ use Rattle.table.specs.declared.tag.Tag.{Tag}
 -- a tag for each row
 unfoldable pub tableIn : List ℕ → List Tag
 tableIn bs = map tagFrom (rowsIn bs)
+
+-- The tags of a table by rank, which is byte order. A list in memory holds tags below 65536; no directory has so many.
+abbrev pub byRank : List Tag → List ℕ
+byRank tags = upTo (min (length tags) 65536)
 
 abbrev pub withGrace : Tag → Grace → Tag
 withGrace x g = record {

@@ -88,12 +88,12 @@ pub fn tag_from(w: [u64; 32]) -> Tag
         message: w[21],
     });
     let published = held_from(EntryWords {
-        held: w[22],
-        kind: w[23],
-        word: w[24],
-        t: w[25],
-        error: w[26],
-        message: w[27],
+        held: w[24],
+        kind: w[25],
+        word: w[26],
+        t: w[27],
+        error: w[28],
+        message: w[29],
     });
     Tag {
         tier: (w[0] % 256) as u8,
@@ -154,14 +154,14 @@ pub fn tag_words(x: Tag) -> [u64; 32]
         cached.t,
         cached.error,
         cached.message,
+        0,
+        0,
         published.held,
         published.kind,
         published.word,
         published.t,
         published.error,
         published.message,
-        0,
-        0,
         0,
         0,
     ]

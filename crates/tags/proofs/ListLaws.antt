@@ -222,3 +222,13 @@ opening-all old mid new p v n len h free r count =
     ∙ r .front
     ∙ take-all (n + 1) (opened l p v) (omega (arith, length-opened l p v (omega arith)))
     ∙ sym (inserted-more (room old) p v l (omega arith) (omega arith))
+
+-- ---- a list cut short
+
+pub shortened : (old new : List ℕ) (n : ℕ) → n < length (listIn old) → halvesIn new ≡ set (halvesIn old) 0 (n % 65536) → listIn new ≡ take n (listIn old)
+shortened old new n h e =
+    let small : n % 65536 ≡ n = mod-eq-of-lt (omega (arith, list-short old)) in
+    recount old new (n % 65536) e
+    ∙ ap (λ (m : ℕ). take m (places (halvesIn old))) small
+    ∙ sym (take-take n (length (listIn old)) (places (halvesIn old)) (omega arith))
+    ∙ ap (take n) (list-places old)

@@ -17,6 +17,10 @@ listIn bs = listOf (halvesIn bs)
 abbrev pub room : List ℕ → ℕ
 room bs = min (length bs / 2 - 1) 65535
 
+-- as many tags of a list as there is room for; the lists of an engine have room for every tag of its directory, so that none is ever cut
+abbrev pub fitted : ℕ → List ℕ → List ℕ
+fitted room l = take room l
+
 -- one tag more, where there is room for n
 abbrev pub pushed : ℕ → List ℕ → ℕ → List ℕ
 pushed n xs k = cond (ltb (length xs) n) (xs ++ (k ∷ [])) xs

@@ -2,7 +2,7 @@
 ghost use mathlib.Core.Path.{_≡_};
 ghost use mathlib.Core.List.{[]};
 ghost use Prim.Native.Nat.{_%_};
-ghost use lib.ListN.{length, getD};
+ghost use lib.ListN.{length, getD, take};
 ghost use Rattle.tags.specs.Lists.{listIn, room, pushed, insertedAt, member};
 use memory::bytes;
 use memory::halves;
@@ -61,6 +61,15 @@ pub fn push(s: &mut [u8], k: usize)
     if n < room_of(s) {
         halves::put_half(s, n + 1, k);
         halves::put_half(s, 0, n + 1);
+    }
+}
+
+// The first n tags stay.
+pub fn shorten(s: &mut [u8], n: usize)
+    ensures { λ _. ⌜ listIn (now (s .exit)) ≡ take n (listIn (now (s .entry))) ⌝ }
+{
+    if n < count(s) {
+        halves::put_half(s, 0, n);
     }
 }
 

@@ -17,7 +17,8 @@ use Rattle.tags.proofs.ListLaws.{pushed-more}
 use Rattle.table.specs.Tag.{f0, noGrace, freshTag}
 use Rattle.table.specs.Table.{withGrace}
 use Rattle.table.specs.declared.tag.Tag.{Tag}
-use Rattle.tiers.specs.Tiers.{Table, tagAt, isBit, tagSet, graceEnded, putTable, setTable, graceUntil, enterGrace, changeGrace, setTier}
+use Rattle.tiers.specs.Tiers.{tagSet, graceEnded, putTable, setTable, graceUntil, enterGrace, changeGrace, setTier}
+use Rattle.board.specs.Board.{Table, tagAt, isBit}
 use Rattle.tiers.specs.Graced.{Graced}
 
 few-if : (b : Bool) → cond b 1 0 ≤ 1

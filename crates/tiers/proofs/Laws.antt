@@ -1,27 +1,18 @@
--- The table that memory holds, part by part.
-use mathlib.Core.Path.{_≡_, refl, ap}
+-- Rule 5: what the steps of a tier call come to.
+use mathlib.Core.Path.{_≡_, refl, ap, _∙_}
 use mathlib.Core.Bool.{Bool, true, false, cond}
-use mathlib.Core.List.{List}
-use Prim.Native.Nat.{ℕ, _-_, _/_, min}
+use Prim.Native.Nat.{ℕ}
 use lib.Dec.{eqb}
 use lib.Ieee.{Float, le}
-use lib.ListN.{length}
-use Rattle.memory.specs.Halves.{halvesIn}
-use Rattle.tags.specs.Lists.{listIn, room}
+use lib.ListN.{getD, set}
 use Rattle.values.specs.declared.entry.Held.the-variants.{None}
-use Rattle.table.specs.Tag.{f0, noTiming}
-use Rattle.table.specs.Table.{tableIn, withGrace, withStanding, withoutLast, withoutReadings}
+use Rattle.table.specs.Tag.{f0, noTiming, freshTag}
+use Rattle.table.specs.Table.{withGrace, withStanding, withoutLast, withoutReadings}
 use Rattle.table.specs.declared.tag.Grace.{Grace}
 use Rattle.table.specs.declared.tag.Tag.{Tag}
-use Rattle.tiers.specs.Tiers.{Table, tabled, timingSet, addedSet, wantsSet, tagSet, keptFor, setTable, setTier}
-
-pub same-room : (new old : List ℕ) → length new ≡ length old → room new ≡ room old
-same-room new old e = ap (λ (n : ℕ). min (n / 2 - 1) 65535) e
-
-pub tabled-is : (T : Table) (t order graces words : List ℕ)
-    → tableIn t ≡ T .tags → listIn order ≡ T .order → listIn graces ≡ T .graces → room order ≡ T .orderRoom → room graces ≡ T .graceRoom → halvesIn words ≡ T .words
-    → tabled t order graces words ≡ T
-tabled-is T t order graces words a b c d e f = rw (a, b, c, d, e, f)
+use Rattle.table.proofs.RowLaws.{set-again}
+use Rattle.board.specs.Board.{Table, Board, tagAt, isBit, withTable, withTag, withOrder, withGraces}
+use Rattle.tiers.specs.Tiers.{timingSet, addedSet, wantsSet, tagSet, keptFor, orderSet, graceEnded, putTable, setTable, setTier}
 
 -- standing first, then what is kept: the tag put in a tier
 pub standing-kept : (x : Tag) (bit : Bool) (tier : ℕ) (g : Grace)
@@ -55,3 +46,21 @@ set-at-once T k tier grace clock e = rw e (go (eqb tier 1) (eqb tier 2))
     go true two = refl
     go false true = refl
     go false false = refl
+
+-- standing, then what is kept, then the order, then the graces
+pub put-steps : (B B1 B2 B3 B4 : Board) (k tier : ℕ) (g : Grace)
+    → B1 ≡ withTag B k (withStanding (tagAt (B .table) k) tier g (addedSet (tagAt (B .table) k) tier) (wantsSet (tagAt (B .table) k) (isBit (B .table) k) tier))
+    → B2 ≡ withTag B1 k (keptFor (tagAt (B1 .table) k) tier)
+    → B3 ≡ withOrder B2 (orderSet (B2 .table .orderRoom) (B2 .table .order) k (tagAt (B .table) k .tier) tier)
+    → B4 ≡ withGraces B3 (graceEnded (B3 .table .graces) k (tagAt (B .table) k .grace .on))
+    → B4 ≡ withTable B (putTable (B .table) k tier g)
+unfolding putTable
+put-steps B B1 B2 B3 B4 k tier g e1 e2 e3 e4 =
+    let x = tagAt (B .table) k in
+    let bit = isBit (B .table) k in
+    let ts = B .table .tags in
+    let standing = withStanding x tier g (addedSet x tier) (wantsSet x bit tier) in
+    let tags : set (set ts k standing) k (keptFor (getD (set ts k standing) k freshTag) tier) ≡ set ts k (withGrace (tagSet x bit tier) g) =
+    set-again (λ (y : Tag). keptFor y tier) ts k standing freshTag ∙ ap (set ts k) (standing-kept x bit tier g)
+    in
+    rw (e4, e3, e2, e1, tags) refl

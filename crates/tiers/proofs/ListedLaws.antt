@@ -17,7 +17,8 @@ use Rattle.table.specs.Tag.{f0, noGrace, freshTag}
 use Rattle.table.specs.Table.{withGrace}
 use Rattle.table.specs.declared.tag.Grace.{Grace}
 use Rattle.table.specs.declared.tag.Tag.{Tag}
-use Rattle.tiers.specs.Tiers.{Table, tagAt, isBit, tagSet, orderSet, graceEnded, putTable, setTable, withTagGraces, graceUntil, enterGrace, changeGrace, setTier}
+use Rattle.tiers.specs.Tiers.{tagSet, orderSet, graceEnded, putTable, setTable, withTagGraces, graceUntil, enterGrace, changeGrace, setTier}
+use Rattle.board.specs.Board.{Table, tagAt, isBit}
 use Rattle.tiers.specs.Listed.{inTier, Listed}
 
 few-in : (n : ℕ) → inTier n ≤ 1

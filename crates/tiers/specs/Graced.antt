@@ -4,7 +4,7 @@ use mathlib.Core.Bool.{cond}
 use Prim.Native.Nat.{ℕ, _≤_}
 use lib.ListN.{length}
 use Rattle.lists.specs.Keep.{count}
-use Rattle.tiers.specs.Tiers.{Table, tagAt}
+use Rattle.board.specs.Board.{Table, tagAt}
 
 -- A tag stands in the list of graces once while it is in grace, and not at all otherwise. The list has room for every tag of the directory.
 pub record Graced (T : Table) : Type 0 where

@@ -3,7 +3,7 @@ use mathlib.Core.Path.{_≡_}
 use Prim.Native.Nat.{ℕ, zero, suc, _≤_}
 use lib.ListN.{length}
 use Rattle.lists.specs.Keep.{count, Below}
-use Rattle.tiers.specs.Tiers.{Table, tagAt}
+use Rattle.board.specs.Board.{Table, tagAt}
 
 -- 1 for a tier, 0 for none
 abbrev pub inTier : ℕ → ℕ

@@ -6,35 +6,15 @@ use lib.Dec.{eqb}
 use lib.Ieee.{Float, binary64, add, le}
 use lib.ListN.{getD, set}
 use Rattle.lists.specs.Keep.{without}
-use Rattle.memory.specs.Halves.{halvesIn}
-use Rattle.tags.specs.Lists.{listIn, room, pushed}
+use Rattle.tags.specs.Lists.{pushed}
 use Rattle.values.specs.declared.entry.Held.{Held}
 use Rattle.values.specs.declared.entry.Held.the-variants.{None}
 use Rattle.table.specs.Tag.{f0, noGrace, noTiming, freshTag}
-use Rattle.table.specs.Table.{tableIn, withGrace, withoutLast, withoutReadings}
+use Rattle.table.specs.Table.{withGrace, withoutLast, withoutReadings}
 use Rattle.table.specs.declared.tag.Grace.{Grace}
 use Rattle.table.specs.declared.tag.Timing.{Timing}
 use Rattle.table.specs.declared.tag.Tag.{Tag}
-
--- The table: a record for each tag of the directory, the tags in tiers in their order of entry, and the tags in grace in the order of their graces.
--- `orderRoom` and `graceRoom` are how many tags the two lists can hold. `words` has 0 for a tag that is no bit.
-pub record Table : Type 0 where
-  pub tags : List Tag
-  pub order : List ℕ
-  pub graces : List ℕ
-  pub orderRoom : ℕ
-  pub graceRoom : ℕ
-  pub words : List ℕ
-
--- The table that lent memory holds.
-abbrev pub tabled : List ℕ → List ℕ → List ℕ → List ℕ → Table
-tabled t order graces words = record { tags = tableIn t; order = listIn order; graces = listIn graces; orderRoom = room order; graceRoom = room graces; words = halvesIn words }
-
-abbrev pub tagAt : Table → ℕ → Tag
-tagAt T k = getD (T .tags) k freshTag
-
-abbrev pub isBit : Table → ℕ → Bool
-isBit T k = not (eqb (getD (T .words) k 0) 0)
+use Rattle.board.specs.Board.{Table, tagAt, isBit}
 
 -- Rule 5: leaving forgets the missing mark, and any setting but tier 1 forgets the last reading time.
 unfoldable pub timingSet : Timing → ℕ → Timing

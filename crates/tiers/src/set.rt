@@ -1,21 +1,21 @@
 // A tag put in a tier at once.
 ghost use mathlib.Core.Path.{_≡_};
-ghost use Rattle.tags.specs.Lists.{listIn, room};
-ghost use lib.ListN.{getD, set};
-ghost use Rattle.table.specs.Tag.{freshTag};
-ghost use Rattle.table.specs.Table.{tableIn};
-ghost use Rattle.tiers.specs.Tiers.{tabled, addedFrom, wantsFrom, keptFor, orderSet, graceEnded, putTable, setTable};
-use entries::forget;
-use fields::added_of;
-use fields::forget_last;
-use fields::grace_of;
-use fields::put_standing;
-use fields::tier_of;
-use fields::wants_of;
-use memory::halves::half;
-use removal::remove;
+ghost use Rattle.tiers.specs.Tiers.{addedFrom, wantsFrom, keptFor, orderSet, graceEnded, putTable, setTable};
+ghost use Rattle.board.specs.Board.{withTable, tagAt};
+ghost use Rattle.board.specs.Layout.{IsBoard};
+ghost use Rattle.board.specs.Board.{Holds, boardIn, withTag, withOrder, withGraces};
+use board::tag::added_of;
+use board::tag::forget;
+use board::tag::forget_last;
+use board::tag::grace_of;
+use board::tag::is_bit;
+use board::tag::put_standing;
+use board::tag::tier_of;
+use board::tag::wants_of;
+use board::tag_lists::push_order;
+use board::tag_lists::remove_grace;
+use board::tag_lists::remove_order;
 use table::tag::Grace;
-use tags::push;
 
 // The tests below do not branch, as the tiers of calls follow no order that a processor could foresee.
 fn added_set(old: u8, added: bool, tier: u8) -> bool
@@ -31,69 +31,66 @@ fn wants_set(old: u8, wants: bool, bit: bool, tier: u8) -> bool
 }
 
 // Leaving forgets readings and entries, and any other setting but tier 1 the last reading time.
-fn forget_for(t: &mut [u8], k: usize, tier: u8)
-    ensures { λ _. ⌜ tableIn (now (t .exit)) ≡ set (tableIn (now (t .entry))) k (keptFor (getD (tableIn (now (t .entry))) k freshTag) tier) ⌝ }
+fn forget_for(b: &mut [u8], k: usize, tier: u8)
+    requires { ⌜ IsBoard (now b) ⌝ }
+    ensures { λ _. ⌜ Holds (now (b .exit)) (withTag (boardIn (now (b .entry))) k (keptFor (tagAt (boardIn (now (b .entry)) .table) k) tier)) ⌝ }
 {
     if tier == 0 {
-        forget(t, k);
+        forget(b, k);
         return;
     }
     if tier == 1 {
         return;
     }
-    forget_last(t, k);
+    forget_last(b, k);
 }
 
-fn order_set(order: &mut [u8], k: u16, old: u8, new: u8)
-    ensures { λ _. ⌜ listIn (now (order .exit)) ≡ orderSet (room (now (order .entry))) (listIn (now (order .entry))) k old new ⌝ }
+fn order_set(b: &mut [u8], k: u16, old: u8, new: u8)
+    requires { ⌜ IsBoard (now b) ⌝ }
+    ensures { λ _. ⌜ Holds (now (b .exit)) (withOrder (boardIn (now (b .entry))) (orderSet (boardIn (now (b .entry)) .table .orderRoom) (boardIn (now (b .entry)) .table .order) k old new)) ⌝ }
 {
     if old == 0 {
         if new != 0 {
-            push(order, k as usize);
+            push_order(b, k);
         }
         return;
     }
     if new == 0 {
-        remove(order, k as usize);
+        remove_order(b, k);
     }
 }
 
-fn end_grace(graces: &mut [u8], k: u16, on: bool)
-    ensures { λ _. ⌜ listIn (now (graces .exit)) ≡ graceEnded (listIn (now (graces .entry))) k on ⌝ }
+fn end_grace(b: &mut [u8], k: u16, on: bool)
+    requires { ⌜ IsBoard (now b) ⌝ }
+    ensures { λ _. ⌜ Holds (now (b .exit)) (withGraces (boardIn (now (b .entry))) (graceEnded (boardIn (now (b .entry)) .table .graces) k on)) ⌝ }
 {
     if on {
-        remove(graces, k as usize);
+        remove_grace(b, k);
     }
 }
 
 // The tag k put in a tier, with a grace or none.
-pub fn put(
-    t: &mut [u8],
-    order: &mut [u8],
-    graces: &mut [u8],
-    words: &[u8],
-    k: u16,
-    tier: u8,
-    g: Grace,
-)
-    ensures { λ _. ⌜ tabled (now (t .exit)) (now (order .exit)) (now (graces .exit)) (now (words .entry)) ≡ putTable (tabled (now (t .entry)) (now (order .entry)) (now (graces .entry)) (now (words .entry))) k tier g ⌝ }
+pub fn put(b: &mut [u8], k: u16, tier: u8, g: Grace)
+    requires { ⌜ IsBoard (now b) ⌝ }
+    ensures { λ _. ⌜ Holds (now (b .exit)) (withTable (boardIn (now (b .entry))) (putTable (boardIn (now (b .entry)) .table) k tier g)) ⌝ }
 {
     let at = k as usize;
-    let bit = half(words, at) != 0;
-    let old = tier_of(t, at);
-    let grace = grace_of(t, at);
-    let added = added_set(old, added_of(t, at), tier);
-    let wants = wants_set(old, wants_of(t, at), bit, tier);
-    put_standing(t, at, tier, g, added, wants);
-    forget_for(t, at, tier);
-    order_set(order, k, old, tier);
-    end_grace(graces, k, grace.on);
+    let bit = is_bit(b, at);
+    let old = tier_of(b, at);
+    let grace = grace_of(b, at);
+    let added = added_set(old, added_of(b, at), tier);
+    let wants = wants_set(old, wants_of(b, at), bit, tier);
+    put_standing(b, at, tier, g, added, wants);
+    forget_for(b, at, tier);
+    order_set(b, k, old, tier);
+    end_grace(b, k, grace.on);
 }
 
 // The tag k put in a tier at once; 0 is none.
-pub fn set(t: &mut [u8], order: &mut [u8], graces: &mut [u8], words: &[u8], k: u16, tier: u8)
-    ensures { λ _. ⌜ tabled (now (t .exit)) (now (order .exit)) (now (graces .exit)) (now (words .entry)) ≡ setTable (tabled (now (t .entry)) (now (order .entry)) (now (graces .entry)) (now (words .entry))) k tier ⌝ }
+pub fn set(b: &mut [u8], k: u16, tier: u8)
+    requires { ⌜ IsBoard (now b) ⌝ }
+    ensures { λ _. ⌜ Holds (now (b .exit)) (withTable (boardIn (now (b .entry))) (setTable (boardIn (now (b .entry)) .table) k tier)) ⌝ }
 {
     let g = Grace::none();
-    put(t, order, graces, words, k, tier, g);
+    put(b, k, tier, g);
 }

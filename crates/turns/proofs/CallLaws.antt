@@ -2,7 +2,7 @@
 use mathlib.Core.Path.{_≡_, refl, ap, sym, _∙_}
 use mathlib.Core.Bool.{Bool, true, false, not, cond, _||_, _&&_, true≢false}
 use mathlib.Core.List.{List, [], _∷_}
-use Prim.Native.Nat.{ℕ, suc, _+_, _*_, _≤_, _<_}
+use Prim.Native.Nat.{ℕ, _+_, _*_, _≤_, _<_}
 use native.Mathlib.Omega.{arith}
 use lib.Dec.{eqb, ltb}
 use lib.Dec as Clock
@@ -17,11 +17,13 @@ use Rattle.ieee.specs.Times.{clockOk}
 use Rattle.ieee.proofs.Order.{yes, no, le-trans-float, not-lt→le}
 use Rattle.ieee.proofs.Finite.{clock-finite}
 use Rattle.names.specs.Directory.{namesOf, directoryCheck, maxNames, maxNameLength}
-use Rattle.names.proofs.DirectoryLaws.{length-names, checked}
+use Rattle.names.proofs.DirectoryLaws.{length-names, Checked, checked}
+use Rattle.ranks.specs.Ranks.{wordsOf}
 use Rattle.words.specs.Value.{valueFrom}
 use Rattle.table.specs.Tag.{freshTag}
 use Rattle.table.specs.declared.tag.Tag.{Tag}
-use Rattle.tiers.specs.Tiers.{Table, setTier}
+use Rattle.tiers.specs.Tiers.{setTier}
+use Rattle.board.specs.Board.{Table}
 use Rattle.tiers.specs.Listed.{Listed, inTier}
 use Rattle.tiers.proofs.ListedLaws.{listed-tier}
 use Rattle.panel.specs.Panel.{panelRoom, countIn, loaded, panelCheck, entryCheck, tagsOf, tiersOf}
@@ -34,7 +36,7 @@ use Rattle.settings.specs.Configured.{configuredOk}
 use Rattle.histories.specs.Events.{quiet, retiered, Each}
 use Rattle.histories.specs.Histories.{atEach}
 use Rattle.histories.specs.Respects.{Respects}
-use Rattle.board.specs.Creation.{freshBoard, freshWords, tagRoom}
+use Rattle.fresh.specs.Fresh.{freshBoard}
 use Rattle.replies.specs.Worker.{Worker, at}
 use Rattle.capi.specs.Calls.{tiered, wrote, halted, answerOf}
 use Rattle.checks.specs.Calls.{clockCheck, noTag, tierCheck, loadCheck, writeCheck}
@@ -162,10 +164,16 @@ fresh-tier n k = go (ltb k n) refl
     go true e = ap (λ (x : Tag). x .tier) (getD-replicate n k freshTag freshTag (ltb-true k n e))
     go false e = ap (λ (x : Tag). x .tier) (List·getD-eq-default (replicate n freshTag) freshTag (omega (arith, length-replicate n freshTag, ltb-false k n e)))
 
--- Check 1: a directory has 120 names at most
-pub names-few : (s : Setup) → creationCheck s ≡ 0 → length (s .ends) ≤ 120
+-- Check 1: there is a name at least, and no more than a directory can have
+directory-good : (s : Setup) → creationCheck s ≡ 0 → Checked maxNames maxNameLength (s .names) (s .ends)
 unfolding creationCheck
-names-few s e = checked maxNames maxNameLength (s .names) (s .ends) (first-zero (directoryCheck maxNames maxNameLength (s .names) (s .ends)) _ e .0) .few
+directory-good s e = checked maxNames maxNameLength (s .names) (s .ends) (first-zero (directoryCheck maxNames maxNameLength (s .names) (s .ends)) _ e .0)
+
+pub names-some : (s : Setup) → creationCheck s ≡ 0 → 1 ≤ length (s .ends)
+names-some s e = directory-good s e .some
+
+pub names-few : (s : Setup) → creationCheck s ≡ 0 → length (s .ends) ≤ maxNames
+names-few s e = directory-good s e .few
 
 -- Check 14
 pub settings-good : (s : Setup) → creationCheck s ≡ 0 → settingsOk (length (s .ends)) (s .settings) ≡ true
@@ -191,24 +199,25 @@ cycle-good s e =
 pub sound-fresh : (s : Setup) → creationCheck s ≡ 0 → Sound (s .options) (namesOf (s .names) (s .ends)) (freshWorker s)
 unfolding creationCheck freshBoard
 sound-fresh s e =
-    let words = freshWords (s .names) (s .ends) in
-    let same = taken-tiers false (s .settings) words (replicate tagRoom freshTag) in
+    let count = length (s .ends) in
+    let rows = replicate count freshTag in
+    let words = wordsOf (namesOf (s .names) (s .ends)) in
+    let same = taken-tiers false (s .settings) words rows in
     let tags = freshBoard (s .names) (s .ends) (s .settings) (s .groups) .table .tags in
-    let long : length tags ≡ 120 = tags-long tags (replicate tagRoom freshTag) same ∙ length-replicate tagRoom freshTag in
-    let few = names-few s e in
+    let long : length tags ≡ count = tags-long tags rows same ∙ length-replicate count freshTag in
     record {
       options-same = refl;
       listed = record {
-        once = λ k. ap inTier (sym (tier-same tags (replicate tagRoom freshTag) same k ∙ fresh-tier tagRoom k));
+        once = λ k. ap inTier (sym (tier-same tags rows same k ∙ fresh-tier count k));
         graced = tt;
         enough = omega (arith, long);
       };
       inside = record { order-inside = tt; graces-inside = tt };
-      few = omega (arith, long, few);
+      few = omega (arith, long);
       room = omega (arith, long);
       count-same = sym (length-names (s .names) (s .ends));
       keys-same = refl;
-      rated = rated-taken (length (s .ends)) (s .settings) (settings-good s e) false words (replicate tagRoom freshTag);
+      rated = rated-taken (length (s .ends)) (s .settings) (settings-good s e) false words rows;
       clock-fine = unfold ofBits in tt;
       last-past = λ z. absurd (true≢false (sym z));
     }

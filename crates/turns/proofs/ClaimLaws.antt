@@ -1,19 +1,16 @@
 -- Demand 3 holds.
-use mathlib.Core.Path.{_≡_, refl, sym, _∙_, subst}
-use mathlib.Core.Bool.{Bool, true, false}
+use mathlib.Core.Path.{_≡_, refl, ap, sym, _∙_, subst}
 use mathlib.Core.List.{List}
 use Prim.Native.Nat.{ℕ, _≤_}
-use native.Mathlib.Omega.{arith}
-use lib.Dec.{eqb}
 use lib.ListN.{length}
-use borrow.Author.Tests.{eqb-true, eqb-false}
 use Rattle.ieee.proofs.Bound.{slices-pos}
-use Rattle.names.specs.Directory.{namesOf}
+use Rattle.names.specs.Directory.{namesOf, maxNames}
 use Rattle.names.proofs.DirectoryLaws.{length-names}
 use Rattle.histories.proofs.HistoryLaws.{claim}
-use Rattle.capi.specs.Memory.{memorySize, workerIn, Called}
+use Rattle.capi.specs.Memory.{IsEngine, sizeCheck, workerIn}
 use Rattle.checks.specs.Creation.{Setup, creationCheck}
-use Rattle.capi.specs.Creation.{freshWorker}
+use Rattle.capi.specs.Creation.{freshWorker, Created}
+use Rattle.capi.proofs.CallLaws.{created-engine}
 use Rattle.turns.specs.Calls.{answer, after}
 use Rattle.turns.specs.Contracts.{Asked, Learnt}
 use Rattle.turns.specs.Demand.{event, slicesIn, ByName, Claim}
@@ -24,29 +21,24 @@ use Rattle.turns.proofs.ContractLaws.{Fit, ready, said}
 use Rattle.turns.proofs.NamedLaws.{by-name}
 
 -- creation answers 0 on an engine's memory alone, and leaves a fresh engine there
-module _ (s : Setup) (mem fresh : List ℕ) (m : Called mem fresh 0 (creationCheck s) (freshWorker s)) where
-  -- the memory had the length of an engine's
-  made-size : length mem ≡ memorySize
-  made-size = go (eqb (length mem) memorySize) refl
-    where
-      go : (b : Bool) → eqb (length mem) memorySize ≡ b → length mem ≡ memorySize
-      go true e = eqb-true (length mem) memorySize e
-      go false e = absurd (let z : 0 ≡ 100 = m .alien (eqb-false (length mem) memorySize e) in omega arith)
+module _ (s : Setup) (mem fresh : List ℕ) (m : Created mem fresh 0 s) where
+  -- nothing that creation was given is refused, and the memory had the length of an engine's
+  made-good : (creationCheck s ≡ 0) × IsEngine mem
+  made-good = created-engine s (length mem) (sym (m .code))
 
-  -- and has it still
-  made-fit : Fit fresh
-  made-fit = m .long ∙ made-size
-
-  -- nothing that creation was given is refused
   made-checked : creationCheck s ≡ 0
-  made-checked = sym (m .code made-size)
+  made-checked = made-good .0
+
+  -- it has that length still
+  made-fit : Fit fresh
+  made-fit = ap sizeCheck (m .long) ∙ made-good .1
 
   -- it holds a fresh engine
   made-fresh : workerIn fresh ≡ freshWorker s
-  made-fresh = m .done made-size made-checked
+  made-fresh = m .done refl
 
-  -- its directory has 120 names at most
-  made-few : length (namesOf (s .names) (s .ends)) ≤ 120
+  -- its directory has no more names than a directory can have
+  made-few : length (namesOf (s .names) (s .ends)) ≤ maxNames
   made-few = rw (length-names (s .names) (s .ends)) (names-few s made-checked)
 
 -- Demand 3, of every accepted creation and every list of calls that happened.

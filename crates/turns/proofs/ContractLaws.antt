@@ -8,7 +8,7 @@ use lib.ListN.{length}
 use borrow.Author.Tests.{eqb-true, eqb-false, eq-eqb}
 use Rattle.words.specs.Value.{valueFrom}
 use Rattle.replies.specs.Worker.{Worker}
-use Rattle.capi.specs.Memory.{memorySize, workerIn, Called}
+use Rattle.capi.specs.Memory.{IsEngine, sizeCheck, workerIn, Called}
 use Rattle.checks.specs.Calls.{tierCheck, loadCheck, writeCheck}
 use Rattle.capi.specs.Calls.{tiered, loaded, wrote, halted}
 use Rattle.capi.specs.Looks.{isEngine, stateLook, statsLook, countsLook, tagLook}
@@ -18,13 +18,13 @@ use Rattle.turns.proofs.Said.{tier-said, load-said, write-said, stop-sa
 
 -- an engine's memory
 abbrev pub Fit : List ℕ → Type 0
-Fit mem = length mem ≡ memorySize
+Fit mem = IsEngine mem
 
 -- ---- on an engine's memory
 
 -- a call that checks: it answers what its checks come to, and leaves what it does where that is 0
 pub called-is : (old new : List ℕ) (r n : ℕ) (W : Worker) → Fit old → Called old new r n W → (r ≡ n) × (workerIn new ≡ cond (eqb n 0) W (workerIn old)) × Fit new
-called-is old new r n W h c = (c .code h, go (eqb n 0) refl, c .long ∙ h)
+called-is old new r n W h c = (c .code h, go (eqb n 0) refl, ap sizeCheck (c .long) ∙ h)
   where
     go : (b : Bool) → eqb n 0 ≡ b → workerIn new ≡ cond b W (workerIn old)
     go true e = c .done h (eqb-true n 0 e)
@@ -37,7 +37,7 @@ ready c mem f = ready-said c mem
 module _ (old : List ℕ) (f : Fit old) where
   -- the test for an engine's memory is met
   is-engine : isEngine old ≡ true
-  is-engine = eq-eqb (length old) memorySize f
+  is-engine = eq-eqb (sizeCheck (length old)) 0 f
 
   -- a call that answers a number
   numbered : (a : Answer) (new : List ℕ) (r n : ℕ) (W : Worker) → a ≡ numberIs r → Called old new r n W
@@ -48,7 +48,7 @@ module _ (old : List ℕ) (f : Fit old) where
 
   -- a look leaves the memory as it was
   looked : (a b : Answer) (new : List ℕ) → a ≡ b → new ≡ old → (a ≡ b) × (workerIn new ≡ workerIn old) × Fit new
-  looked a b new e l = (e, ap workerIn l, ap length l ∙ f)
+  looked a b new e l = (e, ap workerIn l, ap (λ (mem : List ℕ). sizeCheck (length mem)) l ∙ f)
 
 -- Each call of an engine's memory answers what the rules answer, leaves the engine that they leave, and leaves an engine's memory.
 pub said : (c : Call) (old : List ℕ) (a : Answer) (new : List ℕ) → Fit old → Learnt c old a new → (a ≡ answer c (workerIn old)) × (workerIn new ≡ after c (workerIn old)) × Fit new
@@ -59,7 +59,7 @@ said (load clock list) old a new f p =
     numbered old f a new (p .0) (loadCheck (workerIn old) clock list) (loaded (workerIn old) clock list) (p .1) (load-said old new clock list (p .0) (p .2))
 said (steps clock wall kind n message list out) old a new f p =
     let c = step-said old new clock wall kind n message list out (p .0) (p .1) (p .3) in
-    (p .2 ∙ ap₂ told (c .reply-is f) (c .out-is f), c .left-is f, c .long ∙ f)
+    (p .2 ∙ ap₂ told (c .reply-is f) (c .out-is f), c .left-is f, ap sizeCheck (c .long) ∙ f)
 said (write tag kind word) old a new f p =
     let v = valueFrom kind word in
     numbered old f a new (p .0) (writeCheck (workerIn old) tag v) (wrote (workerIn old) tag v) (p .1) (write-said old new tag kind word (p .0) (p .2))

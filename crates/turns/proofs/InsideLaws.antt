@@ -13,7 +13,8 @@ use Rattle.lists.proofs.KeepLaws.{below-append, below-keep, below-take}
 use Rattle.tags.specs.Lists.{pushed, member}
 use Rattle.table.specs.Tag.{f0, noGrace}
 use Rattle.table.specs.declared.tag.Grace.{Grace}
-use Rattle.tiers.specs.Tiers.{Table, tagAt, orderSet, graceEnded, putTable, setTable, graceUntil, enterGrace, changeGrace, setTier}
+use Rattle.tiers.specs.Tiers.{orderSet, graceEnded, putTable, setTable, graceUntil, enterGrace, changeGrace, setTier}
+use Rattle.board.specs.Board.{Table, tagAt}
 use Rattle.rounds.specs.Graces.{hasRunOut, expiredAt, runOut}
 use Rattle.panel.specs.Panel.{loaded, entryCheck, badTier}
 

@@ -19,12 +19,11 @@ use Rattle.readings.specs.Listed.{Applying, applyNext, applyFrom}
 use Rattle.descriptions.specs.Descriptions.{knownFrom}
 use Rattle.versions.specs.Versions.{tagTaken, takenAt, eachAt, tableTaken, versionTable, isChanged, takesSettings}
 use Rattle.versions.specs.declared.version.Version.{Version}
-use Rattle.tiers.specs.Tiers.{Table}
 use Rattle.rounds.specs.declared.tick.Cycle.{Cycle}
 use Rattle.turns.proofs.TierLaws.{tiers, set-kept, tierOf, placeOf, places, places-tiers, places-settings}
 use Rattle.turns.proofs.TickLaws.{Rated}
 use Rattle.turns.proofs.RateLaws.{rated-same}
-use Rattle.board.specs.Board.{withRecords}
+use Rattle.board.specs.Board.{withRecords, Table}
 use Rattle.replies.specs.Worker.{Worker, Told, tell}
 use Rattle.replies.specs.declared.reply.Reply.{Reply}
 
@@ -155,8 +154,8 @@ pub record Still (W : Worker) (T : Told) : Type 0 where
   pub no-round : T .round ≡ none
 
 -- something told by an engine that keeps all
-pub still-tell : (W M : Worker) (r : Reply) (cells : List ℕ) → Keeps W M → Still W (tell M r cells)
-still-tell W M r cells k = record { keeps = k; no-round = refl }
+pub still-tell : (W M : Worker) (r : Reply) (bytes : List ℕ) → Keeps W M → Still W (tell M r bytes)
+still-tell W M r bytes k = record { keeps = k; no-round = refl }
 
 -- either of two
 pub still-if : (W : Worker) (b : Bool) (x y : Told) → Still W x → Still W y → Still W (cond b x y)

@@ -1,18 +1,19 @@
 -- A round that goes by the sort keys in memory is the round by lower-cased name, where the tags in tiers and graces are tags of the directory.
-use mathlib.Core.Path.{_≡_}
+use mathlib.Core.Path.{_≡_, refl, ap, sym, _∙_}
 use mathlib.Core.List.{List}
 use Prim.Native.Nat.{ℕ, _≤_}
+use native.Mathlib.Omega.{arith}
 use lib.Ieee.{Float, binary64, div}
 use lib.ListN.{length, take}
 use Rattle.ieee.specs.Round.{float}
 use Rattle.lists.specs.Keep.{keep}
-use Rattle.lists.specs.Sort.{byKeys}
+use Rattle.lists.specs.Sort.{sort, byKeys}
 use Rattle.lists.proofs.KeepLaws.{below-keep, below-take}
-use Rattle.names.specs.Keys.{byName}
-use Rattle.ranks.specs.Ranks.{over, keysOf}
-use Rattle.ranks.proofs.Laws.{sorted-by-name}
+use Rattle.names.specs.Keys.{keyOf, byName}
+use Rattle.ranks.specs.Ranks.{keysOf}
+use Rattle.ranks.proofs.Laws.{over-all, each-long, sorted-by-name}
 use Rattle.table.specs.declared.tag.Tag.{Tag}
-use Rattle.tiers.specs.Tiers.{Table}
+use Rattle.board.specs.Board.{Table}
 use Rattle.slices.specs.Slice.{isTier2, tier2Tags}
 use Rattle.rounds.specs.Tick.{tickOf, boundaryAt}
 use Rattle.rounds.specs.Graces.{expiredAt, runOut}
@@ -21,17 +22,20 @@ use Rattle.rounds.specs.Round.{Polling, Rooms, round}
 use Rattle.rounds.specs.declared.tick.Options.{Options}
 use Rattle.turns.proofs.InsideLaws.{Inside, inside-run-out, expired-inside}
 
-module _ (old : List ℕ) (ns : List (List ℕ)) (few : length ns ≤ length old) (small : length ns ≤ 65536) where
+module _ (ns : List (List ℕ)) (small : length ns ≤ 65536) where
   -- the tier-2 tags by the keys in memory are those by lower-cased name
   pub tier2-by-name : (T : Table) → Inside (length ns) T → (room : ℕ) (tags : List Tag)
-      → tier2Tags (byKeys (over old (keysOf ns))) room tags (T .order) ≡ tier2Tags (byName ns) room tags (T .order)
+      → tier2Tags (byKeys (keysOf ns)) room tags (T .order) ≡ tier2Tags (byName ns) room tags (T .order)
   tier2-by-name T i room tags =
-      sorted-by-name old ns few small (take room (keep (isTier2 tags) (T .order)))
+      let keys = keysOf ns in
+      let xs = take room (keep (isTier2 tags) (T .order)) in
+      ap (λ (l : List ℕ). sort (byKeys l) xs) (sym (over-all keys keys refl))
+      ∙ sorted-by-name keys ns (omega (arith, each-long (keyOf ns) (length ns))) small xs
       (below-take (length ns) room (keep (isTier2 tags) (T .order)) (below-keep (length ns) (isTier2 tags) (T .order) (i .order-inside)))
 
   -- so is the whole round
   pub round-by-name : (rooms : Rooms) (o : Options) (P : Polling) (clock : Float) → Inside (length ns) (P .table)
-      → round (byKeys (over old (keysOf ns))) rooms o P clock ≡ round (byName ns) rooms o P clock
+      → round (byKeys (keysOf ns)) rooms o P clock ≡ round (byName ns) rooms o P clock
   unfolding round
   round-by-name rooms o P clock i =
       let T = P .table in

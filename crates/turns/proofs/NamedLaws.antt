@@ -5,16 +5,15 @@ use mathlib.Core.List.{List}
 use mathlib.Core.Option.{Option}
 use Prim.Native.Nat.{ℕ, _≤_}
 use native.Mathlib.Omega.{arith}
-use lib.ListN.{length, length-replicate}
+use lib.ListN.{length}
 use Rattle.lists.specs.Slices.{slice}
 use Rattle.lists.specs.Sort.{sort, byKeys}
 use Rattle.ieee.specs.Round.{slicesOf}
-use Rattle.names.specs.Directory.{namesOf}
+use Rattle.names.specs.Directory.{namesOf, maxNames}
 use Rattle.names.specs.Keys.{byName}
 use Rattle.slices.specs.Slice.{tier2Tags}
 use Rattle.rounds.specs.Round.{Round}
 use Rattle.rounds.specs.declared.tick.Options.{Options}
-use Rattle.board.specs.Creation.{noNumbers}
 use Rattle.replies.specs.Worker.{Worker, At, Told, at}
 use Rattle.cycles.specs.Polling.{roundAt}
 use Rattle.worker.specs.Answers.{Answer, clocked, stepped, step}
@@ -29,7 +28,7 @@ use Rattle.turns.proofs.StepLaws.{Did, nothing, oneRound, did-stepped, 
 use Rattle.turns.proofs.KeepLaws.{index-kept}
 use Rattle.turns.proofs.SoundLaws.{Sound, indexOf, sound-kept, less, rooms, P, round-listed, round-inside, round-room, sound-clocked}
 
-module _ (o : Options) (ns : List (List ℕ)) (few : length ns ≤ 120) where
+module _ (o : Options) (ns : List (List ℕ)) (few : length ns ≤ maxNames) where
   abbrev S : ℕ
   S = slicesOf (o .period) (o .cycle)
 
@@ -38,10 +37,9 @@ module _ (o : Options) (ns : List (List ℕ)) (few : length ns ≤ 120) where
   tier2-named M at s =
       let T = roundAt M at .after .table in
       let room = M .board .askedRoom in
-      let long : length noNumbers ≡ 128 = length-replicate {A = ℕ} 128 0 in
       sym (tier2-left (less o ns M at s) (rooms o ns M at s) (M .head .options) (P o ns M at s) (at .clock))
       ∙ ap (λ (ks : List ℕ). tier2Tags (byKeys ks) room (T .tags) (T .order)) (s .keys-same)
-      ∙ tier2-by-name noNumbers ns (omega (arith, long)) (omega arith) T (rw (← s .count-same) (round-inside o ns M at s)) room (T .tags)
+      ∙ tier2-by-name ns (omega arith) T (rw (← s .count-same) (round-inside o ns M at s)) room (T .tags)
       ∙ ap (sort (byName ns)) (none-cut T (round-listed o ns M at s) room (round-room o ns M at s))
 
   -- a round, if there was one
@@ -68,7 +66,7 @@ module _ (o : Options) (ns : List (List ℕ)) (few : length ns ≤ 120) where
       (λ c. did-by-name (clocked W at) at (stepped W at a) (sound-clocked o ns W at a c s) (did-stepped at W a (c .awaits) (c .holds)))
 
 -- every call
-pub by-name : (s : Setup) → length (namesOf (s .names) (s .ends)) ≤ 120 → (c : Call) (W : Worker) → Sound (s .options) (namesOf (s .names) (s .ends)) W → ByName s (moment c W)
+pub by-name : (s : Setup) → length (namesOf (s .names) (s .ends)) ≤ maxNames → (c : Call) (W : Worker) → Sound (s .options) (namesOf (s .names) (s .ends)) W → ByName s (moment c W)
 unfolding roundIn TookByName
 by-name s few (tier clock tag to) W v = tt
 by-name s few (load clock list) W v = tt

@@ -13,16 +13,17 @@ use mir.Facts.{or-yes}
 use Rattle.ieee.specs.Round.{float}
 use Rattle.ieee.proofs.Order.{yes}
 use Rattle.table.specs.declared.tag.Tag.{Tag}
+use Rattle.lent.specs.Lent.{tagBytes}
 use Rattle.rounds.specs.Options.{cycleOk}
 use Rattle.rounds.specs.Round.{round as worked-round}
-use Rattle.writes.specs.Queue.{popped}
-use Rattle.writes.specs.declared.queue.Popped.{Popped}
-use Rattle.writes.specs.declared.queue.Popped.the-variants.{Nothing, Is}
+use Rattle.queue.specs.Queue.{popped}
+use Rattle.queue.specs.declared.Popped.{Popped}
+use Rattle.queue.specs.declared.Popped.the-variants.{Nothing, Is}
 use Rattle.heads.specs.Stats.{readStats}
 use Rattle.heads.specs.declared.progress.Phase.the-variants.{Read, Version}
 use Rattle.heads.specs.declared.progress.After.{After}
 use Rattle.heads.specs.declared.progress.After.the-variants.{Tail, End}
-use Rattle.talks.specs.Talks.{describing}
+use Rattle.descriptions.specs.Descriptions.{describing}
 use Rattle.replies.specs.Worker.{Worker, At, at, Told, tell, asks, withBoard, phased, tallied, goesOn}
 use Rattle.replies.specs.Reply as reply
 use Rattle.replies.specs.Losing.{isEmpty}
@@ -121,7 +122,7 @@ module _ (at : At) (f : T (finite (at .clock))) where
     poll-told =
         told-if (W .head .link .stopping) _ _ (writing-told W End refl) (told-round (isEmpty (roundAt W at .list)))
       where
-        told-round : (b : Bool) → goesOn (cond b (reading (withWorked W at (roundAt W at)) at) (tell (phased (withWorked W at (roundAt W at)) Read) (reply.read (length (roundAt W at .list))) (roundAt W at .list))) ≡ false
+        told-round : (b : Bool) → goesOn (cond b (reading (withWorked W at (roundAt W at)) at) (tell (phased (withWorked W at (roundAt W at)) Read) (reply.read (length (roundAt W at .list))) (tagBytes (roundAt W at .list)))) ≡ false
         told-round true = reading-told (withWorked W at (roundAt W at)) begun-worked
         told-round false = refl
 

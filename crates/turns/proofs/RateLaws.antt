@@ -2,14 +2,13 @@
 use mathlib.Core.Path.{_≡_, refl, ap, sym, _∙_}
 use mathlib.Core.Bool.{Bool, true, false, not, _&&_, _||_, cond, true≢false}
 use mathlib.Core.List.{List, [], _∷_, map}
-use Prim.Native.Nat.{ℕ, zero, suc, _%_, _*_, _<_}
-use native.Mathlib.Nat.{mod-eq-of-lt}
+use Prim.Native.Nat.{ℕ, zero, suc, _%_, _*_}
 use native.Mathlib.Omega.{arith}
 use lib.Dec.{eqb, ltb, leb}
 use lib.Ieee.{Float, binary64, ofBits, add, le}
 use lib.Ieee.Scale.{finite}
 use lib.ListN.{length, getD}
-use borrow.Author.Tests.{ne-eqb, ltb-true, lt-ltb}
+use borrow.Author.Tests.{ne-eqb, eqb-false, not-true, lt-ltb}
 use Rattle.memory.proofs.RowLaws.{map-at}
 use Rattle.table.specs.Tag.{f0, freshTag, noSettings, noGrace}
 use Rattle.table.specs.declared.tag.Grace.{Grace}
@@ -17,7 +16,8 @@ use Rattle.table.specs.declared.tag.Settings.{Settings}
 use Rattle.table.specs.declared.tag.Tag.{Tag}
 use Rattle.settings.specs.Records.{recordsIn, every}
 use Rattle.settings.specs.Settings.{settingFrom, settingIn, settingOk, settingsOk, rateOk, maxGroups}
-use Rattle.tiers.specs.Tiers.{Table, tagAt, tagSet, putTable, graceUntil, enterGrace, setTier}
+use Rattle.tiers.specs.Tiers.{tagSet, putTable, graceUntil, enterGrace, setTier}
+use Rattle.board.specs.Board.{Table, tagAt}
 use Rattle.panel.specs.Panel.{loaded}
 use Rattle.versions.specs.Versions.{tagTaken, takenAt, eachAt, tableTaken, versionTable, isChanged, takesSettings}
 use Rattle.versions.specs.declared.version.Version.{Version}
@@ -87,10 +87,8 @@ rated-setting ws e = go (getD ws 1 0) (getD ws 2 0) (both (finite (ofBits binary
         let n : eqb (suc g) 0 ≡ false = ne-eqb (suc g) 0 (λ q. omega arith) in
         let u : (leb (suc g) maxGroups && rateOk r) ≡ true = rw n at h in
         let v = both (leb (suc g) maxGroups) (rateOk r) u .1 in
-        let w = both (ltb 0 r) (ltb r 0x1_0000_0000) v in
-        let p : 0 < r = ltb-true 0 r (w .0) in
-        let s : r % 0x1_0000_0000 ≡ r = mod-eq-of-lt (ltb-true r 0x1_0000_0000 (w .1)) in
-        rw (lt-ltb 0 (suc g) (omega arith), s, lt-ltb 0 r p) refl
+        let p : (r % 0x1_0000_0000 ≡ 0 → ⊥) = eqb-false (r % 0x1_0000_0000) 0 (not-true (eqb (r % 0x1_0000_0000) 0) v) in
+        rw (lt-ltb 0 (suc g) (omega arith), lt-ltb 0 (r % 0x1_0000_0000) (omega (arith, p))) refl
 
 -- all settings of a list
 rated-records : (rs : List (List ℕ)) → every settingOk rs ≡ true → (i : ℕ) → isRated (getD (map settingFrom rs) i noSettings) ≡ true

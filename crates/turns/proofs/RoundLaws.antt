@@ -11,7 +11,8 @@ use Rattle.lists.specs.Slices.{slice, next}
 use Rattle.table.specs.Tag.{freshTag}
 use Rattle.table.specs.Table.{withLast}
 use Rattle.table.specs.declared.tag.Tag.{Tag}
-use Rattle.tiers.specs.Tiers.{Table, tagAt, tagSet, putTable, setTable}
+use Rattle.tiers.specs.Tiers.{tagSet, putTable, setTable}
+use Rattle.board.specs.Board.{Table, tagAt}
 use Rattle.tiers.specs.Listed.{Listed}
 use Rattle.tiers.proofs.ListedLaws.{order-below}
 use Rattle.slices.specs.Slice.{tier2Tags, sliceTaken, nextIndex}

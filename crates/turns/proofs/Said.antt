@@ -8,11 +8,10 @@ use lib.IntN.{ℤ}
 use lib.ListN.{length}
 use Rattle.words.specs.Value.{valueFrom}
 use Rattle.lent.specs.Lent.{records}
-use Rattle.board.specs.Board.{rowCells}
 use Rattle.replies.specs.Worker.{at}
 use Rattle.replies.specs.declared.reply.Reply.{Reply}
 use Rattle.worker.specs.Answers.{step}
-use Rattle.shown.specs.Looks.{listed, leftIn, panelLeft}
+use Rattle.shown.specs.Looks.{listed, leftIn, panelLeft, rowCells}
 use Rattle.shown.specs.declared.head.StateLook.{StateLook}
 use Rattle.shown.specs.declared.head.StatsLook.{StatsLook}
 use Rattle.shown.specs.declared.counts.CountsLook.{CountsLook}
@@ -21,15 +20,15 @@ use Rattle.shown.specs.declared.tag.TagLook.{TagLook}
 use Rattle.capi.specs.Memory.{workerIn, Called}
 use Rattle.checks.specs.Calls.{tierCheck, loadCheck, writeCheck}
 use Rattle.capi.specs.Calls.{tiered, loaded, wrote, halted, answerOf, Stepped}
-use Rattle.checks.specs.Creation.{Setup, creationCheck}
-use Rattle.capi.specs.Creation.{freshWorker}
+use Rattle.checks.specs.Creation.{Setup}
+use Rattle.capi.specs.Creation.{Created}
 use Rattle.capi.specs.Looks.{stateLook, statsLook, countsLook, groupCells, groupCount, groupCheck, tableCount, tableCheck, panelBytes, panelCount, panelCode, tagLook}
 use Rattle.turns.specs.Calls.{Call, tier, load, steps, write, stop, lookState, lookStats, lookCounts, lookGroups, lookTable, lookPanel, lookTag}
 use Rattle.turns.specs.Contracts.{Asked, CreateMet, TierMet, LoadMet, WriteMet, StopMet, StepMet, StateMet, StatsMet, CountsMet, GroupsMet, TableMet, PanelMet, TagMet}
 
 -- ---- calls
 
-pub create-said : (s : Setup) (old new : List ℕ) (r : ℕ) → CreateMet s old new r → Called old new r (creationCheck s) (freshWorker s)
+pub create-said : (s : Setup) (old new : List ℕ) (r : ℕ) → CreateMet s old new r → Created old new r s
 create-said s old new r h = rw (← h .names-is, ← h .ends-is, ← h .settings-is, ← h .groups-is, ← h .mem-is, ← h .mem-left) (h .met)
 
 pub tier-said : (old new : List ℕ) (clock : Float) (tag to r : ℕ) → TierMet old new clock tag to r

@@ -14,10 +14,10 @@ use Rattle.lists.specs.Sort.{byKeys}
 use Rattle.ieee.specs.Round.{slicesOf}
 use Rattle.ieee.proofs.Order.{yes, no, le-trans-float, le-refl-float, not-lt→le}
 use Rattle.ieee.proofs.Finite.{clock-finite}
-use Rattle.ranks.specs.Ranks.{over, keysOf}
+use Rattle.ranks.specs.Ranks.{keysOf}
 use Rattle.tiers.specs.Listed.{Listed, inTier}
 use Rattle.slices.specs.Slice.{isTier2, tier2Tags}
-use Rattle.rounds.specs.Round.{Round, Rooms, Polling, round}
+use Rattle.rounds.specs.Round.{Round, Rooms, Polling, round, pollingOf}
 use Rattle.rounds.specs.declared.tick.Options.{Options}
 use Rattle.rounds.specs.declared.tick.Cycle.{Cycle}
 use Rattle.turns.proofs.TierLaws.{tier-same, tags-long, tier2-same, tier2-once}
@@ -26,8 +26,6 @@ use Rattle.turns.proofs.RateLaws.{rated-same}
 use Rattle.turns.proofs.RoundLaws.{listed-round, round-long, round-settings, inside-round, tier2-left, none-ran-out, not-boundary, last-boundary, at-boundary}
 use Rattle.histories.specs.Events.{Event, quiet, retiered, took}
 use Rattle.histories.specs.Respects.{Respects}
-use Rattle.polls.specs.Polls.{pollingOf}
-use Rattle.board.specs.Creation.{noNumbers}
 use Rattle.replies.specs.Worker.{Worker, At, Told}
 use Rattle.replies.specs.Losing.{isEmpty}
 use Rattle.cycles.specs.Polling.{roundAt, withWorked}
@@ -57,7 +55,7 @@ pub record Sound (o : Options) (ns : List (List ℕ)) (W : Worker) : Type 0 wher
   pub few : W .head .count ≤ length (W .board .table .tags)
   pub room : length (W .board .table .tags) ≤ W .board .askedRoom
   pub count-same : W .head .count ≡ length ns
-  pub keys-same : W .board .keys ≡ over noNumbers (keysOf ns)
+  pub keys-same : W .board .keys ≡ keysOf ns
   pub rated : Rated (W .board .table .tags)
   pub clock-fine : T (finite (W .head .clock))
   pub last-past : LastPast (W .head .clock) (W .head .cycle)

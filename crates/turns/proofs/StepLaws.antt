@@ -9,7 +9,10 @@ use lib.Dec.{eqb, ltb}
 use lib.Ieee.{lt}
 use lib.ListN.{length}
 use borrow.Author.Tests.{eqb-true}
+use Rattle.names.specs.Directory.{maxNames}
 use Rattle.ieee.specs.Times.{clockOk}
+use Rattle.lent.specs.Lent.{tagBytes}
+use Rattle.lent.specs.Changes.{changeSize}
 use Rattle.heads.specs.declared.progress.After.the-variants.{End}
 use Rattle.heads.specs.declared.progress.Phase.the-variants.{Read}
 use Rattle.replies.specs.Reply as reply
@@ -42,7 +45,7 @@ module _ (at : At) where
   did-poll W =
       let R = roundAt W at in
       let next = withWorked W at R in
-      let T = cond (isEmpty (R .list)) (reading next at) (tell (phased next Read) (reply.read (length (R .list))) (R .list)) in
+      let T = cond (isEmpty (R .list)) (reading next at) (tell (phased next Read) (reply.read (length (R .list))) (tagBytes (R .list))) in
       let s : Still next T = still-if next (isEmpty (R .list)) _ _ (still-reading at next) (still-tell next (phased next Read) _ _ (keeps-all next (phased next Read) refl refl refl refl refl refl refl)) in
       did-if W (W .head .link .stopping) _ _ (nothing (still-writing at W End)) (oneRound W (keeps-refl W) refl (s .keeps))
 
@@ -54,7 +57,7 @@ module _ (at : At) where
       waits = still-waiting at (T .left) .keeps
 
       W' : Told
-      W' = record { left = waiting (T .left) at .left; reply = waiting (T .left) at .reply; cells = []; round = T .round }
+      W' = record { left = waiting (T .left) at .left; reply = waiting (T .left) at .reply; bytes = []; round = T .round }
 
       go : Did W at T → Did W at W'
       go (nothing s) = nothing (record { keeps = keeps-after W (T .left) (W' .left) (s .keeps) waits; no-round = s .no-round })
@@ -83,7 +86,7 @@ pub record Accepted (W : Worker) (at : At) (a : Answer) : Type 0 where
 pub accepted-step : (W : Worker) (at : At) (a : Answer) (out : ℕ) → stepCheck W at a out ≡ 0 → Accepted W at a
 unfolding stepCheck
 accepted-step W at a out e =
-    go (ltb (out / 56) (length (W .board .table .tags))) (clockOk (at .clock)) refl (lt (at .clock) (W .head .clock)) refl (answers (awaited (W .head .progress .phase)) a) refl e
+    go (ltb (out / changeSize) maxNames) (clockOk (at .clock)) refl (lt (at .clock) (W .head .clock)) refl (answers (awaited (W .head .progress .phase)) a) refl e
   where
     go : (x : Bool) (c : Bool) → clockOk (at .clock) ≡ c → (l : Bool) → lt (at .clock) (W .head .clock) ≡ l → (k : Bool) → answers (awaited (W .head .progress .phase)) a ≡ k
         → cond x 43 (cond (not c) 21 (cond l 22 (cond (not k) 41 (contents W a)))) ≡ 0 → Accepted W at a

@@ -11,14 +11,14 @@ use lib.IntN.{ℤ}
 use lib.ListN.{length, take}
 use Rattle.readings.specs.Stale.{tagStale}
 use Rattle.results.specs.Results.{resultCount}
-use Rattle.descriptions.specs.Descriptions.{unwanted, foundIn, foundCount, learnt, learntNone}
+use Rattle.descriptions.specs.Descriptions.{unwanted, foundIn, foundCount, learnt, learntNone, describing}
 use Rattle.table.specs.declared.tag.Tag.{Tag}
 use Rattle.table.specs.declared.tag.Description.the-variants.{Nothing as NoDescription}
 use Rattle.settings.specs.Settings.{settingsOk}
 use Rattle.versions.specs.Versions.{isReloaded, versionTable}
-use Rattle.writes.specs.Queue.{popped}
-use Rattle.writes.specs.declared.queue.Popped.{Popped}
-use Rattle.writes.specs.declared.queue.Popped.the-variants.{Nothing, Is}
+use Rattle.queue.specs.Queue.{popped}
+use Rattle.queue.specs.declared.Popped.{Popped}
+use Rattle.queue.specs.declared.Popped.the-variants.{Nothing, Is}
 use Rattle.heads.specs.Link.{isState, withAttempt}
 use Rattle.heads.specs.Stats.{readStats, tailStats, reconnected}
 use Rattle.heads.specs.declared.link.State.the-variants.{Disconnected, Connecting, Connected}
@@ -28,8 +28,7 @@ use Rattle.heads.specs.declared.progress.Phase.{Phase}
 use Rattle.heads.specs.declared.progress.Phase.the-variants.{Begin, Connect, OpenVersion, Version, Read, Describe, Write, ReadBack, Wait, Backoff, OpenFailedTold, OpenMetaTold, ConnectedTold, MetaTold, ValuesTold, InfoTold, RefusedTold, LostTold, OutcomeTold, BackTold, FailedTold, StaleTold, DisconnectedTold, ConnectingTold, Stopped}
 use Rattle.turns.proofs.TierLaws.{places, placeOf, map-kept}
 use Rattle.board.specs.Board.{withRecords}
-use Rattle.polls.specs.Polls.{staledIn, appliedTo}
-use Rattle.talks.specs.Talks.{describing}
+use Rattle.readings.specs.Changes.{staledIn, appliedTo}
 use Rattle.replies.specs.Reply as reply
 use Rattle.replies.specs.declared.reply.Reply.{Reply}
 use Rattle.replies.specs.Worker.{Worker, At, tell, asks, withBoard, phased, linked, tallied}
@@ -161,8 +160,8 @@ keeps-versioned W connecting a ok =
     (keeps-all mid (versioned W connecting a) refl refl refl refl refl refl refl)
 
 -- something told from the engine M
-still-told : (W M X : Worker) (r : Reply) (cells : List ℕ) → Keeps W M → Keeps M X → Still W (tell X r cells)
-still-told W M X r cells k j = still-tell W X r cells (keeps-after W M X k j)
+still-told : (W M X : Worker) (r : Reply) (bytes : List ℕ) → Keeps W M → Keeps M X → Still W (tell X r bytes)
+still-told W M X r bytes k j = still-tell W X r bytes (keeps-after W M X k j)
 
 pub still-open-version : (W : Worker) (a : Answer) → settingsOk (W .head .count) (a .list) ≡ true → Still W (openVersion W a)
 unfolding openVersion

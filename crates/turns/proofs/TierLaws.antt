@@ -17,11 +17,10 @@ use Rattle.memory.proofs.RowLaws.{map-at}
 use Rattle.table.specs.Tag.{freshTag}
 use Rattle.table.specs.declared.tag.Settings.{Settings}
 use Rattle.table.specs.declared.tag.Tag.{Tag}
-use Rattle.tiers.specs.Tiers.{Table, tagAt}
+use Rattle.board.specs.Board.{Table, tagAt, withTags}
 use Rattle.tiers.specs.Listed.{inTier, Listed}
 use Rattle.tiers.proofs.ListedLaws.{order-below}
 use Rattle.slices.specs.Slice.{isTier2, tier2Tags}
-use Rattle.rounds.specs.Round.{withTags}
 
 -- ---- the tiers of a table's tags
 

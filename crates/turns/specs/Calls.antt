@@ -6,14 +6,15 @@ use lib.Dec.{eqb, ltb}
 use lib.Ieee.{Float}
 use lib.IntN.{ℤ}
 use lib.ListN.{length}
+use Rattle.names.specs.Directory.{maxNames}
 use Rattle.words.specs.Value.{valueFrom}
-use Rattle.tiers.specs.Tiers.{tagAt}
 use Rattle.lent.specs.Lent.{records, wroteAll}
-use Rattle.board.specs.Board.{rowCells}
+use Rattle.panel.specs.Panel.{panelRoom}
+use Rattle.board.specs.Board.{tagAt}
 use Rattle.replies.specs.Worker.{Worker, Told, at}
 use Rattle.replies.specs.declared.reply.Reply.{Reply}
 use Rattle.worker.specs.Answers.{step}
-use Rattle.shown.specs.Looks.{stateOf, statsOf, countsOf, listed, leftIn, panelLeft, tagOf, noLook}
+use Rattle.shown.specs.Looks.{stateOf, statsOf, countsOf, listed, leftIn, panelLeft, tagOf, noLook, rowCells}
 use Rattle.shown.specs.declared.head.StateLook.{StateLook}
 use Rattle.shown.specs.declared.head.StatsLook.{StatsLook}
 use Rattle.shown.specs.declared.counts.CountsLook.{CountsLook}
@@ -72,15 +73,15 @@ answer (tier clock tag to) W = numberIs (tierCheck W clock tag to)
 answer (load clock list) W = numberIs (loadCheck W clock list)
 answer (steps clock wall kind number message list out) W =
     let T = toldBy clock wall kind number message list out W in
-    told (T .reply) (wroteAll out (T .cells))
+    told (T .reply) (wroteAll out (T .bytes))
 answer (write tag kind word) W = numberIs (writeCheck W tag (valueFrom kind word))
 answer stop W = numberIs 0
 answer lookState W = stateIs (stateOf (W .head .link))
 answer lookStats W = statsAre (statsOf (W .head .stats))
 answer lookCounts W = countsAre (countsOf (W .board))
 answer (lookGroups out) W = groupsFound W out (placesCheck (length out / 40) 16)
-answer (lookTable out) W = tableFound W out (placesCheck (length out / 16) (length (W .board .table .tags)))
-answer (lookPanel out) W = panelFound W out (placesCheck (length out) 241)
+answer (lookTable out) W = tableFound W out (placesCheck (length out / 16) maxNames)
+answer (lookPanel out) W = panelFound W out (placesCheck (length out) (panelRoom maxNames))
 answer (lookTag tag) W = tagIs (cond (noTag W tag) (noLook 23) (tagOf (tagAt (W .board .table) tag)))
 
 -- what a call leaves whose checks came to n; a refusal changes nothing

@@ -46,7 +46,7 @@ pub record CreateMet (s : Setup) (old new : List ℕ) (r : ℕ) : Type 0 where
   pub groups-is : groups .now ≡ s .groups
   pub mem-is : mem .now ≡ old
   pub mem-left : mem-exit .now ≡ new
-  pub met : create-contract.Learnt lifetimes (mem, (names, (ends, (s .options .cycle, (s .options .period, (s .options .grace, (settings, (groups, tt)))))))) r (mem-exit, (names, (ends, (s .options .cycle, (s .options .period, (s .options .grace, (settings, (groups, tt))))))))
+  pub met : create-contract.Learnt lifetimes (mem, (names, (ends, (s .options, (settings, (groups, tt)))))) r (mem-exit, (names, (ends, (s .options, (settings, (groups, tt))))))
 
 pub record TierMet (old new : List ℕ) (clock : Float) (tag to r : ℕ) : Type 0 where
   pub lifetimes : Lfts 1

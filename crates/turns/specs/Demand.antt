@@ -13,7 +13,7 @@ use Rattle.lists.specs.Sort.{sort}
 use Rattle.ieee.specs.Round.{slicesOf}
 use Rattle.names.specs.Directory.{namesOf}
 use Rattle.names.specs.Keys.{byName}
-use Rattle.tiers.specs.Tiers.{Table}
+use Rattle.board.specs.Board.{Table}
 use Rattle.slices.specs.Slice.{isTier2}
 use Rattle.rounds.specs.Round.{Round}
 use Rattle.histories.specs.Events.{Event, quiet, retiered, took, Each, EveryTurnOfRounds}

@@ -2,7 +2,7 @@
 use mathlib.Core.Path.{_≡_, refl, ap, _∙_}
 use mathlib.Core.Bool.{Bool, true, false, cond}
 use mathlib.Core.List.{List, [], _∷_, _++_, map}
-use Prim.Native.Nat.{ℕ, suc, _+_, _*_, _-_, _%_, _≤_}
+use Prim.Native.Nat.{ℕ, suc, _+_, _*_, _%_, _≤_}
 use native.Mathlib.Omega.{arith}
 use lib.Dec.{eqb, ltb}
 use lib.Ieee.{Float, binary64, round as rounded, le}
@@ -10,12 +10,12 @@ use lib.IntN.{ℤ}
 use lib.ListN.{length, getD, set, take, length-map, length-take, length-drop, length-append}
 use Rattle.lists.specs.Keep.{keep}
 use Rattle.lists.specs.Sort.{byKeys}
-use Rattle.lent.specs.Changes.{changeCells}
-use Rattle.lent.specs.Lent.{records}
-use Rattle.lent.proofs.LentLaws.{length-records}
+use Rattle.lent.specs.Changes.{changeCells, changeSize}
+use Rattle.lent.specs.Lent.{cellBytes, tagBytes, records}
+use Rattle.lent.proofs.LentLaws.{length-bytes, length-tags, length-records}
 use Rattle.tags.specs.Lists.{pushed, member}
 use Rattle.table.specs.Tag.{freshTag}
-use Rattle.table.specs.Table.{withDescription}
+use Rattle.table.specs.Table.{withDescription, byRank}
 use Rattle.table.specs.declared.tag.Description.{Description}
 use Rattle.table.specs.declared.tag.Description.the-variants.{Nothing as NoDescription}
 use Rattle.table.specs.declared.tag.Tag.{Tag}
@@ -26,17 +26,17 @@ use Rattle.apply.specs.Apply.{tagRead, tagApplied, appliedAt, sentAt}
 use Rattle.results.specs.Results.{resultCount, resultIn}
 use Rattle.readings.specs.Listed.{Applying, applyNext, applyFrom, applyAll}
 use Rattle.readings.specs.Stale.{tagStale, isStaled}
-use Rattle.descriptions.specs.Descriptions.{isAsked, askedTags, unwanted, knownFrom, foundIn, foundCount, learnt, learntNone}
-use Rattle.settings.specs.Settings.{settingsOk, maxGroups}
+use Rattle.descriptions.specs.Descriptions.{isAsked, askedTags, unwanted, knownFrom, foundIn, foundCount, learnt, learntNone, describing}
+use Rattle.settings.specs.Settings.{settingsOk}
 use Rattle.versions.specs.Versions.{tagTaken, takenAt, eachAt, tableTaken, versionTable, isChanged, isReloaded, takesSettings}
 use Rattle.versions.specs.declared.version.Version.{Version}
-use Rattle.writes.specs.Queue.{popped, rest, writeTags}
-use Rattle.writes.specs.ReadBack.{readBackTags}
-use Rattle.writes.specs.declared.queue.Write.{Write}
-use Rattle.writes.specs.declared.queue.Popped.{Popped}
-use Rattle.writes.specs.declared.queue.Popped.the-variants.{Nothing, Is}
-use Rattle.rounds.specs.Added.{byRank}
-use Rattle.rounds.specs.Round.{Round}
+use Rattle.queue.specs.Queue.{popped, rest}
+use Rattle.writes.specs.Failing.{queuedTags}
+use Rattle.writes.specs.ReadBack.{readBackTags, keptBack}
+use Rattle.queue.specs.declared.Write.{Write}
+use Rattle.queue.specs.declared.Popped.{Popped}
+use Rattle.queue.specs.declared.Popped.the-variants.{Nothing, Is}
+use Rattle.rounds.specs.Round.{Round, pollingOf}
 use Rattle.heads.specs.Link.{isState, withAttempt}
 use Rattle.heads.specs.Stats.{readStats, tailStats, reconnected}
 use Rattle.heads.specs.declared.link.State.the-variants.{Disconnected, Connecting, Connected, Stopped as AtStop}
@@ -44,9 +44,8 @@ use Rattle.heads.specs.declared.progress.After.{After}
 use Rattle.heads.specs.declared.progress.After.the-variants.{Tail, Idle, End}
 use Rattle.heads.specs.declared.progress.Phase.{Phase}
 use Rattle.heads.specs.declared.progress.Phase.the-variants.{Begin, Connect, OpenVersion, Version as AskVersion, Read, Describe, Write as AskWrite, ReadBack, Wait, Backoff, OpenFailedTold, OpenMetaTold, ConnectedTold, MetaTold, ValuesTold, InfoTold, RefusedTold, LostTold, OutcomeTold, BackTold, FailedTold, StaleTold, DisconnectedTold, ConnectingTold, Stopped}
-use Rattle.board.specs.Board.{Board, withRecords, withQueue, withAsked, queuedTags}
-use Rattle.polls.specs.Polls.{staledIn, appliedTo, pollingOf}
-use Rattle.talks.specs.Talks.{keptBack, describing}
+use Rattle.board.specs.Board.{Board, withRecords, withQueue, withAsked}
+use Rattle.readings.specs.Changes.{staledIn, appliedTo}
 use Rattle.replies.specs.Reply as reply
 use Rattle.replies.specs.declared.reply.Reply.{Reply}
 use Rattle.replies.specs.Worker.{Worker, At, Told, tell, asks, withBoard, phased, linked, stated, tallied, goesOn}
@@ -121,8 +120,8 @@ apply-same n m given start t polled i (k ∷ ks) S p q =
 
 -- ---- a board with one part replaced
 
-module _ (rows n : ℕ) (B : Board) (f : Fits rows n B) where
-  fits-records : (tags : List Tag) → map isGraced tags ≡ map isGraced (B .table .tags) → Numbered tags → Fits rows n (withRecords B tags)
+module _ (rows : ℕ) (B : Board) (f : Fits rows B) where
+  fits-records : (tags : List Tag) → map isGraced tags ≡ map isGraced (B .table .tags) → Numbered tags → Fits rows (withRecords B tags)
   fits-records tags e r = record {
     table-fits = fit-tags rows (B .table) tags e r (f .table-fits);
     groups-fit = f .groups-fit;
@@ -132,18 +131,22 @@ module _ (rows n : ℕ) (B : Board) (f : Fits rows n B) where
     rooms = f .rooms;
   }
 
-  pub fits-queue : (q : List Write) → length q ≤ maxWrites → Fits rows n (withQueue B q)
+  pub fits-queue : (q : List Write) → length q ≤ maxWrites → Fits rows (withQueue B q)
   fits-queue q h = record { table-fits = f .table-fits; groups-fit = f .groups-fit; named = f .named; asked-few = f .asked-few; queue-few = h; rooms = f .rooms }
 
-  fits-asked : (l : List ℕ) → length l ≤ B .askedRoom → Fits rows n (withAsked B l)
+  fits-asked : (l : List ℕ) → length l ≤ B .askedRoom → Fits rows (withAsked B l)
   fits-asked l h = record { table-fits = f .table-fits; groups-fit = f .groups-fit; named = f .named; asked-few = h; queue-few = f .queue-few; rooms = f .rooms }
 
   abbrev tags : List Tag
   tags = B .table .tags
 
-  -- what is told of changes: seven cells each, and no more changes than tags
-  changes-few : (l : List Tag) (ks : List ℕ) → length ks ≤ rows → length (records (changeCells l) ks) ≤ 7 * rows
-  changes-few l ks h = omega (arith, length-records (changeCells l) 7 (λ k. refl) ks)
+  -- what is told of changes: nine cells each, and no more changes than tags
+  changes-few : (l : List Tag) (ks : List ℕ) → length ks ≤ rows → length (cellBytes (records (changeCells l) ks)) ≤ changeSize * rows
+  changes-few l ks h = omega (arith, length-bytes (records (changeCells l) ks), length-records (changeCells l) 9 (λ k. refl) ks)
+
+  -- a list of tags: two bytes each
+  tags-few : (ks : List ℕ) → length ks ≤ B .askedRoom → length (tagBytes ks) ≤ changeSize * rows
+  tags-few ks h = omega (arith, length-tags ks, f .rooms .tags-fit)
 
   -- tags by rank: all fit, and it does not matter how much room there is
   module _ (p : ℕ → Bool) where
@@ -153,22 +156,22 @@ module _ (rows n : ℕ) (B : Board) (f : Fits rows n B) where
     ranked-few : length (take (B .askedRoom) ranked) ≤ rows
     ranked-few = omega (arith, length-take (B .askedRoom) ranked, ranks-few p tags, f .table-fits .long)
 
-    ranked-same : take n ranked ≡ take (B .askedRoom) ranked
-    ranked-same =
+    ranked-same : (n : ℕ) → take (B .askedRoom + n) ranked ≡ take (B .askedRoom) ranked
+    ranked-same n =
         let few = ranks-few p tags in
         let long = f .table-fits .long in
-        cut-same n (B .askedRoom) ranked (omega (arith, few, long, f .rooms .tags-fit, f .rooms .more)) (omega (arith, few, long, f .rooms .tags-fit))
+        cut-same (B .askedRoom + n) (B .askedRoom) ranked (omega (arith, few, long, f .rooms .tags-fit)) (omega (arith, few, long, f .rooms .tags-fit))
 
   -- Rule 7: stale marks
-  stale-same : staledIn (boardRoomed n B) ≡ record { board = boardRoomed n (staledIn B .board); changes = staledIn B .changes }
+  stale-same : (n : ℕ) → staledIn (boardRoomed n B) ≡ record { board = boardRoomed n (staledIn B .board); changes = staledIn B .changes }
   unfolding staledIn
-  stale-same = rw (ranked-same (λ (k : ℕ). isStaled (getD tags k freshTag)))
+  stale-same n = rw (ranked-same (λ (k : ℕ). isStaled (getD tags k freshTag)) n)
 
   stale-few : length (staledIn B .changes) ≤ rows
   unfolding staledIn
   stale-few = ranked-few (λ (k : ℕ). isStaled (getD tags k freshTag))
 
-  stale-fits : Fits rows n (staledIn B .board)
+  stale-fits : Fits rows (staledIn B .board)
   unfolding staledIn tagStale
   stale-fits =
       fits-records (map tagStale tags) (map-kept isGraced tagStale (λ x. refl) tags)
@@ -179,21 +182,21 @@ module _ (rows n : ℕ) (B : Board) (f : Fits rows n B) where
     abbrev applied : Applying
     applied = applyAll (B .askedRoom) given start t polled (B .asked) tags
 
-    all-same : applyAll n given start t polled (B .asked) tags ≡ applied
-    all-same =
+    all-same : (n : ℕ) → applyAll (B .askedRoom + n) given start t polled (B .asked) tags ≡ applied
+    all-same n =
         let few = length-take (resultCount given) (B .asked) in
-        apply-same n (B .askedRoom) given start t polled 0 (take (resultCount given) (B .asked)) (record { tags = tags; sent = [] })
-        (omega (arith, few, f .asked-few, f .rooms .more)) (omega (arith, few, f .asked-few))
+        apply-same (B .askedRoom + n) (B .askedRoom) given start t polled 0 (take (resultCount given) (B .asked)) (record { tags = tags; sent = [] })
+        (omega (arith, few, f .asked-few)) (omega (arith, few, f .asked-few))
 
-    applied-same : appliedTo (boardRoomed n B) given start t polled ≡ record { board = boardRoomed n (appliedTo B given start t polled .board); changes = appliedTo B given start t polled .changes }
+    applied-same : (n : ℕ) → appliedTo (boardRoomed n B) given start t polled ≡ record { board = boardRoomed n (appliedTo B given start t polled .board); changes = appliedTo B given start t polled .changes }
     unfolding appliedTo
-    applied-same = rw (all-same, ranked-same (λ (k : ℕ). member k (applied .sent)))
+    applied-same n = rw (all-same n, ranked-same (λ (k : ℕ). member k (applied .sent)) n)
 
     applied-few : length (appliedTo B given start t polled .changes) ≤ rows
     unfolding appliedTo
     applied-few = ranked-few (λ (k : ℕ). member k (applied .sent))
 
-    applied-fits : Fits rows n (appliedTo B given start t polled .board)
+    applied-fits : Fits rows (appliedTo B given start t polled .board)
     unfolding appliedTo tagRead
     applied-fits =
         let ks = take (resultCount given) (B .asked) in
@@ -202,69 +205,57 @@ module _ (rows n : ℕ) (B : Board) (f : Fits rows n B) where
         (numbered-same (applied .tags) tags (apply-kept settingsOf start t polled (λ x e. refl) (B .askedRoom) given 0 ks S) (f .table-fits .numbered))
 
   -- Rule 8: the descriptions that are asked for
-  asked-same : take n (askedTags tags) ≡ take (B .askedRoom) (askedTags tags)
-  asked-same = ranked-same (λ (k : ℕ). isAsked (getD tags k freshTag))
+  asked-same : (n : ℕ) → take (B .askedRoom + n) (askedTags tags) ≡ take (B .askedRoom) (askedTags tags)
+  asked-same n = ranked-same (λ (k : ℕ). isAsked (getD tags k freshTag)) n
 
-  asked-few : length (describing B .asked) ≤ rows
-  asked-few = ranked-few (λ (k : ℕ). isAsked (getD tags k freshTag))
+  -- Rule 8: the tags of the writes that wait: no more bytes than one change has
+  queued-few : length (tagBytes (queuedTags B)) ≤ changeSize * rows
+  queued-few = omega (arith, length-tags (queuedTags B), length-map (B .queue) (λ (w : Write). w .tag), f .queue-few, f .rooms .some)
 
-  -- Rule 8: the tags of the writes that wait
-  queued-same : queuedTags (boardRoomed n B) ≡ queuedTags B
-  queued-same =
-      let long = length-map (B .queue) (λ (w : Write). w .tag) in
-      let few = f .queue-few in
-      let r = f .rooms in
-      cut-same n (B .askedRoom) (writeTags (B .queue)) (omega (arith, long, r .writes-fit, r .more)) (omega (arith, long, r .writes-fit))
-
-  queued-few : length (queuedTags B) ≤ 7 * rows
-  queued-few = omega (arith, length-take (B .askedRoom) (writeTags (B .queue)), f .rooms .cells-fit)
-
-describing-fits : (rows n : ℕ) (B : Board) → Fits rows n B → Fits rows n (describing B)
-describing-fits rows n B f =
+describing-fits : (rows : ℕ) (B : Board) → Fits rows B → Fits rows (describing B)
+describing-fits rows B f =
     let tags = B .table .tags in
     let mid = withRecords B (map unwanted tags) in
-    let m : Fits rows n mid = fits-records rows n B f (map unwanted tags) (map-kept isGraced unwanted (λ x. refl) tags)
+    let m : Fits rows mid = fits-records rows B f (map unwanted tags) (map-kept isGraced unwanted (λ x. refl) tags)
     (numbered-same (map unwanted tags) tags (map-kept settingsOf unwanted (λ x. refl) tags) (f .table-fits .numbered)) in
-    fits-asked rows n mid m (take (B .askedRoom) (askedTags tags)) (omega (arith, length-take (B .askedRoom) (askedTags tags)))
+    fits-asked rows mid m (take (B .askedRoom) (askedTags tags)) (omega (arith, length-take (B .askedRoom) (askedTags tags)))
 
 -- ---- what is told
 
 module _ (rows n : ℕ) where
-  -- What T' tells is what T tells, and it leaves the same engine but for the rooms; what fits is kept, and the cells are no more than a change for each tag has.
+  -- What T' tells is what T tells, and it leaves the same engine but for the rooms; what fits is kept, and the bytes are no more than those of a change for each tag.
   pub record Alike (T T' : Told) : Type 0 where
-    pub fits : Fits rows n (T .left .board)
+    pub fits : Fits rows (T .left .board)
     pub left-same : T' .left ≡ roomed n (T .left)
     pub reply-same : T' .reply ≡ T .reply
-    pub cells-same : T' .cells ≡ T .cells
-    pub cells-few : length (T .cells) ≤ 7 * rows
+    pub bytes-same : T' .bytes ≡ T .bytes
+    pub bytes-few : length (T .bytes) ≤ changeSize * rows
 
   -- either of two
   alike-if : (b : Bool) (x x' y y' : Told) → Alike x x' → Alike y y' → Alike (cond b x y) (cond b x' y')
   alike-if true x x' y y' p q = p
   alike-if false x x' y y' p q = q
 
-  pub alike-tell : (W : Worker) (r : Reply) (cells : List ℕ) → Fits rows n (W .board) → length cells ≤ 7 * rows → Alike (tell W r cells) (tell (roomed n W) r cells)
-  alike-tell W r cells f few = record { fits = f; left-same = refl; reply-same = refl; cells-same = refl; cells-few = few }
+  pub alike-tell : (W : Worker) (r : Reply) (bytes : List ℕ) → Fits rows (W .board) → length bytes ≤ changeSize * rows → Alike (tell W r bytes) (tell (roomed n W) r bytes)
+  alike-tell W r bytes f few = record { fits = f; left-same = refl; reply-same = refl; bytes-same = refl; bytes-few = few }
 
   -- the round that was worked out is not told
   alike-worked : (T T' : Told) (R R' : Round) → Alike T T' → Alike (worked T R) (worked T' R')
-  alike-worked T T' R R' a = record { fits = a .fits; left-same = a .left-same; reply-same = a .reply-same; cells-same = a .cells-same; cells-few = a .cells-few }
+  alike-worked T T' R R' a = record { fits = a .fits; left-same = a .left-same; reply-same = a .reply-same; bytes-same = a .bytes-same; bytes-few = a .bytes-few }
 
-  alike-ask : (W : Worker) → Fits rows n (W .board) → (p : Phase) (r : Reply) → Alike (asks W p r) (asks (roomed n W) p r)
+  alike-ask : (W : Worker) → Fits rows (W .board) → (p : Phase) (r : Reply) → Alike (asks W p r) (asks (roomed n W) p r)
   alike-ask W f p r = alike-tell (phased W p) r [] f (omega arith)
 
   -- ---- the end, and a connection that is lost
 
-  module _ (W : Worker) (f : Fits rows n (W .board)) where
+  module _ (W : Worker) (f : Fits rows (W .board)) where
     alike-failing : (p : Phase) → Alike (failing W p) (failing (roomed n W) p)
     alike-failing p =
-        rw (queued-same rows n (W .board) f)
-        (alike-tell (phased (withoutWrites W) p) _ (queuedTags (W .board)) (fits-queue rows n (W .board) f [] (omega arith)) (queued-few rows n (W .board) f))
+        alike-tell (phased (withoutWrites W) p) _ (tagBytes (queuedTags (W .board))) (fits-queue rows (W .board) f [] (omega arith)) (queued-few rows (W .board) f)
 
     alike-ended : Alike (ended W) (ended (roomed n W))
     alike-ended =
-        rw (queued-same rows n (W .board) f)
-        (alike-tell (phased (stated (withoutWrites W) AtStop) Stopped) _ (queuedTags (W .board)) (fits-queue rows n (W .board) f [] (omega arith)) (queued-few rows n (W .board) f))
+        alike-tell (phased (stated (withoutWrites W) AtStop) Stopped) _ (tagBytes (queuedTags (W .board))) (fits-queue rows (W .board) f [] (omega arith)) (queued-few rows (W .board) f)
 
     alike-backing-off : Alike (backingOff W) (backingOff (roomed n W))
     alike-backing-off = alike-tell _ _ [] f (omega arith)
@@ -277,94 +268,93 @@ module _ (rows n : ℕ) where
     unfolding top
     alike-top = alike-if (W .head .link .stopping) _ _ _ _ alike-ended (alike-ask W f Connect reply.connect)
 
-  alike-staling : (W : Worker) → Fits rows n (W .board) → Alike (staling W) (staling (roomed n W))
+  alike-staling : (W : Worker) → Fits rows (W .board) → Alike (staling W) (staling (roomed n W))
   unfolding staling
   alike-staling W f =
       let C = staledIn (W .board) in
       let next = withBoard W (C .board) in
-      let g = stale-fits rows n (W .board) f in
-      rw (stale-same rows n (W .board) f)
+      let g = stale-fits rows (W .board) f in
+      rw (stale-same rows (W .board) f n)
       (alike-if (isEmpty (C .changes)) _ _ _ _ (alike-disconnected next g)
-      (alike-tell (phased next StaleTold) _ _ g (changes-few rows n (W .board) f (C .board .table .tags) (C .changes) (stale-few rows n (W .board) f))))
+      (alike-tell (phased next StaleTold) _ _ g (changes-few rows (W .board) f (C .board .table .tags) (C .changes) (stale-few rows (W .board) f))))
 
-  alike-down : (W : Worker) → Fits rows n (W .board) → Alike (down W) (down (roomed n W))
+  alike-down : (W : Worker) → Fits rows (W .board) → Alike (down W) (down (roomed n W))
   unfolding down
   alike-down W f = alike-if (W .head .link .stopping) _ _ _ _ (alike-ended W f) (alike-if (isEmpty (W .board .queue)) _ _ _ _ (alike-staling W f) (alike-failing W f FailedTold))
 
   -- ---- rounds, and the writes behind them
 
   module _ (at : At) where
-    alike-polls : (W : Worker) → Fits rows n (W .board) → Alike (polls W) (polls (roomed n W))
+    alike-polls : (W : Worker) → Fits rows (W .board) → Alike (polls W) (polls (roomed n W))
     alike-polls W f = alike-tell W _ [] f (omega arith)
 
-    alike-waiting : (W : Worker) → Fits rows n (W .board) → Alike (waiting W at) (waiting (roomed n W) at)
+    alike-waiting : (W : Worker) → Fits rows (W .board) → Alike (waiting W at) (waiting (roomed n W) at)
     alike-waiting W f = alike-ask W f Wait _
 
-    alike-idle : (W : Worker) → Fits rows n (W .board) → Alike (idle W at) (idle (roomed n W) at)
+    alike-idle : (W : Worker) → Fits rows (W .board) → Alike (idle W at) (idle (roomed n W) at)
     unfolding idle
     alike-idle W f = alike-if (le (remaining W at) (rounded binary64 false 1 10000)) _ _ _ _ (alike-polls W f) (alike-waiting W f)
 
-    alike-tail : (W : Worker) → Fits rows n (W .board) → Alike (tail W at) (tail (roomed n W) at)
+    alike-tail : (W : Worker) → Fits rows (W .board) → Alike (tail W at) (tail (roomed n W) at)
     unfolding tail
     alike-tail W f =
         let next = tallied W (tailStats (W .head .stats) (elapsed W at) (W .head .progress .tick) (at .wall)) in
         alike-if (le (elapsed W at) (W .head .progress .tick)) _ _ _ _ (alike-idle next f) (alike-polls next f)
 
-    alike-resume : (W : Worker) → Fits rows n (W .board) → (a : After) → Alike (resume W at a) (resume (roomed n W) at a)
+    alike-resume : (W : Worker) → Fits rows (W .board) → (a : After) → Alike (resume W at a) (resume (roomed n W) at a)
     unfolding resume
     alike-resume W f Tail = alike-tail W f
     alike-resume W f Idle = alike-idle W f
     alike-resume W f End = alike-ended W f
 
-    alike-writing-of : (W : Worker) → Fits rows n (W .board) → (a : After) (p : Popped) → Alike (writingOf W at a p) (writingOf (roomed n W) at a p)
+    alike-writing-of : (W : Worker) → Fits rows (W .board) → (a : After) (p : Popped) → Alike (writingOf W at a p) (writingOf (roomed n W) at a p)
     unfolding writingOf
     alike-writing-of W f a Nothing = alike-resume W f a
     alike-writing-of W f a (Is w) =
-        alike-tell _ _ [] (fits-queue rows n (W .board) f (rest (W .board .queue)) (omega (arith, length-drop 1 (W .board .queue), f .queue-few))) (omega arith)
+        alike-tell _ _ [] (fits-queue rows (W .board) f (rest (W .board .queue)) (omega (arith, length-drop 1 (W .board .queue), f .queue-few))) (omega arith)
 
-    alike-writing : (W : Worker) → Fits rows n (W .board) → (a : After) → Alike (writing W at a) (writing (roomed n W) at a)
+    alike-writing : (W : Worker) → Fits rows (W .board) → (a : After) → Alike (writing W at a) (writing (roomed n W) at a)
     alike-writing W f a = alike-writing-of W f a (popped (W .board .queue))
 
-    alike-checking : (W : Worker) → Fits rows n (W .board) → Alike (checking W at) (checking (roomed n W) at)
+    alike-checking : (W : Worker) → Fits rows (W .board) → Alike (checking W at) (checking (roomed n W) at)
     unfolding checking
     alike-checking W f = alike-if (W .head .progress .boundary) _ _ _ _ (alike-ask W f AskVersion reply.version) (alike-writing W f Tail)
 
-    alike-reading : (W : Worker) → Fits rows n (W .board) → Alike (reading W at) (reading (roomed n W) at)
+    alike-reading : (W : Worker) → Fits rows (W .board) → Alike (reading W at) (reading (roomed n W) at)
     unfolding reading
     alike-reading W f =
         let B = describing (W .board) in
         let next = tallied (withBoard W B) (readStats (W .head .stats) (length (W .board .asked))) in
-        let g = describing-fits rows n (W .board) f in
-        rw (asked-same rows n (W .board) f)
-        (alike-if (isEmpty (B .asked)) _ _ _ _ (alike-checking next g) (alike-tell (phased next Describe) _ _ g (omega (arith, asked-few rows n (W .board) f))))
+        let g = describing-fits rows (W .board) f in
+        rw (asked-same rows (W .board) f n)
+        (alike-if (isEmpty (B .asked)) _ _ _ _ (alike-checking next g) (alike-tell (phased next Describe) _ _ g (tags-few rows B g (B .asked) (g .asked-few))))
 
     -- Rule 6: a round
-    module _ (W : Worker) (f : Fits rows n (W .board)) (l : Listed (W .board .table)) where
+    module _ (W : Worker) (f : Fits rows (W .board)) (l : Listed (W .board .table)) where
       abbrev B : Board
       B = W .board
 
       abbrev R : Round
       R = roundAt W at
 
-      all-groups : maxGroups ≤ n
-      all-groups = omega (arith, f .rooms .writes-fit, f .rooms .more)
+      fit : rows ≤ B .askedRoom
+      fit = omega (arith, f .rooms .tags-fit)
 
       round-few : length (R .list) ≤ B .askedRoom
-      round-few = list-few (byKeys (B .keys)) rows (B .askedRoom) n (W .head .options) (pollingOf B (W .head .cycle)) (at .clock) l (f .table-fits) (f .groups-fit) (f .rooms .tags-fit) (f .rooms .more) all-groups
+      round-few = list-few (byKeys (B .keys)) rows (B .askedRoom) n (W .head .options) (pollingOf B (W .head .cycle)) (at .clock) l (f .table-fits) (f .groups-fit) fit
 
-      worked-fits : Fits rows n (withWorked W at R .board)
+      worked-fits : Fits rows (withWorked W at R .board)
       worked-fits =
-          let r = f .rooms in
           let o = W .head .options in
           let P = pollingOf B (W .head .cycle) in
           let less = byKeys (B .keys) in
           record {
-            table-fits = round-fits less rows (B .askedRoom) n o P (at .clock) l (f .table-fits) (f .groups-fit) (r .tags-fit) (r .more) all-groups;
-            groups-fit = groups-fit less rows (B .askedRoom) n o P (at .clock) l (f .table-fits) (f .groups-fit) (r .tags-fit) (r .more) all-groups;
+            table-fits = round-fits less rows (B .askedRoom) n o P (at .clock) l (f .table-fits) (f .groups-fit) fit;
+            groups-fit = groups-fit less rows (B .askedRoom) n o P (at .clock) l (f .table-fits) (f .groups-fit) fit;
             named = f .named;
             asked-few = round-few;
             queue-few = f .queue-few;
-            rooms = r;
+            rooms = f .rooms;
           }
 
       alike-polled : (R' : Round) → R' .tick ≡ R .tick → R' .boundary ≡ R .boundary → R' .after ≡ pollingRoomed n (R .after) → R' .list ≡ R .list → Alike (polled W at R) (polled (roomed n W) at R')
@@ -373,94 +363,93 @@ module _ (rows n : ℕ) where
           let next = withWorked W at R in
           rw (a, b, c, d)
           (alike-worked _ _ R _
-          (alike-if (isEmpty (R .list)) _ _ _ _ (alike-reading next worked-fits) (alike-tell (phased next Read) _ (R .list) worked-fits (omega (arith, round-few, f .rooms .cells-fit)))))
+          (alike-if (isEmpty (R .list)) _ _ _ _ (alike-reading next worked-fits) (alike-tell (phased next Read) _ (tagBytes (R .list)) worked-fits (tags-few rows B f (R .list) round-few))))
 
       alike-poll : Alike (poll W at) (poll (roomed n W) at)
       unfolding poll
       alike-poll =
-          let r = f .rooms in
           let o = W .head .options in
           let P = pollingOf B (W .head .cycle) in
           let less = byKeys (B .keys) in
           alike-if (W .head .link .stopping) _ _ _ _ (alike-writing W f End)
           (alike-polled (roundAt (roomed n W) at)
-          (tick-same less rows (B .askedRoom) n o P (at .clock) l (f .table-fits) (f .groups-fit) (r .tags-fit) (r .more) all-groups)
-          (boundary-same less rows (B .askedRoom) n o P (at .clock) l (f .table-fits) (f .groups-fit) (r .tags-fit) (r .more) all-groups)
-          (after-same less rows (B .askedRoom) n o P (at .clock) l (f .table-fits) (f .groups-fit) (r .tags-fit) (r .more) all-groups)
-          (list-same less rows (B .askedRoom) n o P (at .clock) l (f .table-fits) (f .groups-fit) (r .tags-fit) (r .more) all-groups))
+          (tick-same less rows (B .askedRoom) n o P (at .clock) l (f .table-fits) (f .groups-fit) fit)
+          (boundary-same less rows (B .askedRoom) n o P (at .clock) l (f .table-fits) (f .groups-fit) fit)
+          (after-same less rows (B .askedRoom) n o P (at .clock) l (f .table-fits) (f .groups-fit) fit)
+          (list-same less rows (B .askedRoom) n o P (at .clock) l (f .table-fits) (f .groups-fit) fit))
 
     -- what T' tells, in terms of T
-    told-same : (T T' : Told) → Alike T T' → T' ≡ record { left = roomed n (T .left); reply = T .reply; cells = T .cells; round = T' .round }
+    told-same : (T T' : Told) → Alike T T' → T' ≡ record { left = roomed n (T .left); reply = T .reply; bytes = T .bytes; round = T' .round }
     told-same T T' a =
-        let t : Worker → Reply → List ℕ → Told = λ W r cells. record { left = W; reply = r; cells = cells; round = T' .round } in
-        ap (λ (W : Worker). t W (T' .reply) (T' .cells)) (a .left-same) ∙ ap (λ (r : Reply). t (roomed n (T .left)) r (T' .cells)) (a .reply-same) ∙ ap (λ (l : List ℕ). t (roomed n (T .left)) (T .reply) l) (a .cells-same)
+        let t : Worker → Reply → List ℕ → Told = λ W r bytes. record { left = W; reply = r; bytes = bytes; round = T' .round } in
+        ap (λ (W : Worker). t W (T' .reply) (T' .bytes)) (a .left-same) ∙ ap (λ (r : Reply). t (roomed n (T .left)) r (T' .bytes)) (a .reply-same) ∙ ap (λ (l : List ℕ). t (roomed n (T .left)) (T .reply) l) (a .bytes-same)
 
     alike-lastly : (T T' : Told) → Alike T T' → Alike (lastly T at) (lastly T' at)
     alike-lastly T T' a =
         let w = alike-waiting (T .left) (a .fits) in
-        let x : Alike (record { left = waiting (T .left) at .left; reply = waiting (T .left) at .reply; cells = []; round = T .round }) (record { left = waiting (roomed n (T .left)) at .left; reply = waiting (roomed n (T .left)) at .reply; cells = []; round = T' .round })
-        = record { fits = w .fits; left-same = w .left-same; reply-same = w .reply-same; cells-same = refl; cells-few = omega arith } in
-        rw (told-same T T' a) (alike-if (goesOn T) _ _ T _ x (record { fits = a .fits; left-same = refl; reply-same = refl; cells-same = refl; cells-few = a .cells-few }))
+        let x : Alike (record { left = waiting (T .left) at .left; reply = waiting (T .left) at .reply; bytes = []; round = T .round }) (record { left = waiting (roomed n (T .left)) at .left; reply = waiting (roomed n (T .left)) at .reply; bytes = []; round = T' .round })
+        = record { fits = w .fits; left-same = w .left-same; reply-same = w .reply-same; bytes-same = refl; bytes-few = omega arith } in
+        rw (told-same T T' a) (alike-if (goesOn T) _ _ T _ x (record { fits = a .fits; left-same = refl; reply-same = refl; bytes-same = refl; bytes-few = a .bytes-few }))
 
     pub alike-finished : (T T' : Told) → Alike T T' → Listed (T .left .board .table) → Alike (finished T at) (finished T' at)
     unfolding finished
     alike-finished T T' a l =
         rw (told-same T T' a)
         (alike-if (goesOn T) _ _ T _ (alike-lastly (poll (T .left) at) (poll (roomed n (T .left)) at) (alike-poll (T .left) (a .fits) l))
-        (record { fits = a .fits; left-same = refl; reply-same = refl; cells-same = refl; cells-few = a .cells-few }))
+        (record { fits = a .fits; left-same = refl; reply-same = refl; bytes-same = refl; bytes-few = a .bytes-few }))
 
   -- ---- answers
 
-  alike-connected : (W : Worker) → Fits rows n (W .board) → Alike (connected W) (connected (roomed n W))
+  alike-connected : (W : Worker) → Fits rows (W .board) → Alike (connected W) (connected (roomed n W))
   unfolding connected
   alike-connected W f = alike-if (isState (W .head .link) Connected) _ _ _ _ (alike-tell (linked W (withAttempt (W .head .link) 0)) _ [] f (omega arith)) (alike-tell _ _ [] f (omega arith))
 
-  alike-reconnecting : (W : Worker) → Fits rows n (W .board) → Alike (reconnecting W) (reconnecting (roomed n W))
+  alike-reconnecting : (W : Worker) → Fits rows (W .board) → Alike (reconnecting W) (reconnecting (roomed n W))
   unfolding reconnecting
   alike-reconnecting W f = alike-if (isState (W .head .link) Connecting) _ _ _ _ (alike-top (tallied W (reconnected (W .head .stats))) f) (alike-tell _ _ [] f (omega arith))
 
-  alike-opened : (W : Worker) → Fits rows n (W .board) → Alike (opened W) (opened (roomed n W))
+  alike-opened : (W : Worker) → Fits rows (W .board) → Alike (opened W) (opened (roomed n W))
   unfolding opened
   alike-opened W f = alike-if (isEmpty (W .board .queue)) _ _ _ _ (alike-ask W f OpenVersion reply.version) (alike-failing W f OpenFailedTold)
 
   -- check 14 has let the settings in
-  fits-versioned : (W : Worker) → Fits rows n (W .board) → (connecting : Bool) (a : Answer) → settingsOk (W .head .count) (a .list) ≡ true → Fits rows n (versioned W connecting a .board)
+  fits-versioned : (W : Worker) → Fits rows (W .board) → (connecting : Bool) (a : Answer) → settingsOk (W .head .count) (a .list) ≡ true → Fits rows (versioned W connecting a .board)
   fits-versioned W f connecting a ok =
       let old = W .head .link .version in
       let T = W .board .table in
-      fits-records rows n (W .board) f _ (version-graces old (numberOf a) connecting (a .list) (T .words) (T .tags))
+      fits-records rows (W .board) f _ (version-graces old (numberOf a) connecting (a .list) (T .words) (T .tags))
       (numbered-version (W .head .count) (a .list) ok old (numberOf a) connecting (T .words) (T .tags) (f .table-fits .numbered))
 
-  alike-open-version : (W : Worker) → Fits rows n (W .board) → (a : Answer) → settingsOk (W .head .count) (a .list) ≡ true → Alike (openVersion W a) (openVersion (roomed n W) a)
+  alike-open-version : (W : Worker) → Fits rows (W .board) → (a : Answer) → settingsOk (W .head .count) (a .list) ≡ true → Alike (openVersion W a) (openVersion (roomed n W) a)
   unfolding openVersion
   alike-open-version W f a ok =
       let g = fits-versioned W f true a ok in
       alike-if (isReloaded (W .head .link .version) (numberOf a)) _ _ _ _ (alike-tell _ _ [] g (omega arith)) (alike-connected (versioned W true a) g)
 
-  alike-round-version : (W : Worker) → Fits rows n (W .board) → (at : At) (a : Answer) → settingsOk (W .head .count) (a .list) ≡ true → Alike (roundVersion W at a) (roundVersion (roomed n W) at a)
+  alike-round-version : (W : Worker) → Fits rows (W .board) → (at : At) (a : Answer) → settingsOk (W .head .count) (a .list) ≡ true → Alike (roundVersion W at a) (roundVersion (roomed n W) at a)
   unfolding roundVersion
   alike-round-version W f at a ok =
       let g = fits-versioned W f false a ok in
       alike-if (isReloaded (W .head .link .version) (numberOf a)) _ _ _ _ (alike-tell _ _ [] g (omega arith)) (alike-writing at (versioned W false a) g Tail)
 
-  alike-results : (W : Worker) → Fits rows n (W .board) → (at : At) (a : Answer) → Alike (results W at a) (results (roomed n W) at a)
+  alike-results : (W : Worker) → Fits rows (W .board) → (at : At) (a : Answer) → Alike (results W at a) (results (roomed n W) at a)
   unfolding results
   alike-results W f at a =
       let start = W .head .progress .start in
       let C = appliedTo (W .board) (a .list) start (at .wall) true in
       let next = withBoard W (C .board) in
-      let g = applied-fits rows n (W .board) f (a .list) start (at .wall) true in
-      rw (applied-same rows n (W .board) f (a .list) start (at .wall) true)
+      let g = applied-fits rows (W .board) f (a .list) start (at .wall) true in
+      rw (applied-same rows (W .board) f (a .list) start (at .wall) true n)
       (alike-if (eqb (a .kind) 6) _ _ _ _ (alike-down W f)
       (alike-if (isEmpty (C .changes)) _ _ _ _ (alike-reading at next g)
-      (alike-tell (phased next ValuesTold) _ _ g (changes-few rows n (W .board) f (C .board .table .tags) (C .changes) (applied-few rows n (W .board) f (a .list) start (at .wall) true)))))
+      (alike-tell (phased next ValuesTold) _ _ g (changes-few rows (W .board) f (C .board .table .tags) (C .changes) (applied-few rows (W .board) f (a .list) start (at .wall) true)))))
 
   -- either of two
   cond-known : (b : Bool) (x y : List Tag) (P : List Tag → Type 0) → P x → P y → P (cond b x y)
   cond-known true x y P p q = p
   cond-known false x y P p q = q
 
-  alike-descriptions : (W : Worker) → Fits rows n (W .board) → (a : Answer) → Alike (descriptions W a) (descriptions (roomed n W) a)
+  alike-descriptions : (W : Worker) → Fits rows (W .board) → (a : Answer) → Alike (descriptions W a) (descriptions (roomed n W) a)
   unfolding descriptions
   alike-descriptions W f a =
       let B = W .board in
@@ -472,24 +461,18 @@ module _ (rows n : ℕ) where
       (known-kept isGraced (λ x d. refl) (foundIn (a .list)) 0 found tags) (known-kept isGraced (λ x d. refl) none 0 (B .asked) tags) in
       let s : map settingsOf known ≡ map settingsOf tags = cond-known (eqb (a .kind) 9) _ _ (λ (l : List Tag). map settingsOf l ≡ map settingsOf tags)
       (known-kept settingsOf (λ x d. refl) (foundIn (a .list)) 0 found tags) (known-kept settingsOf (λ x d. refl) none 0 (B .asked) tags) in
-      alike-tell (phased (withBoard W (withRecords B known)) InfoTold) _ (B .asked) (fits-records rows n B f known e (numbered-same known tags s (f .table-fits .numbered)))
-      (omega (arith, f .asked-few, f .rooms .cells-fit))
+      alike-tell (phased (withBoard W (withRecords B known)) InfoTold) _ (tagBytes (B .asked)) (fits-records rows B f known e (numbered-same known tags s (f .table-fits .numbered)))
+      (tags-few rows B f (B .asked) (f .asked-few))
 
-  -- a tag and its word are two at most
-  back-few : (words : List ℕ) (k : ℕ) → length (readBackTags words k) ≤ maxWrites
-  back-few words k = go (ltb 1 (getD words k 0))
-    where
-      go : (b : Bool) → suc (length (cond b ((getD words k 0 - 2) ∷ []) [])) ≤ maxWrites
-      go true = omega arith
-      go false = omega arith
-
-  back-same : (W : Worker) → Fits rows n (W .board) → (k : ℕ) → take n (readBackTags (W .board .table .words) k) ≡ take (W .board .askedRoom) (readBackTags (W .board .table .words) k)
+  -- a tag and its word fit
+  back-same : (W : Worker) → Fits rows (W .board) → (k : ℕ)
+      → take (W .board .askedRoom + n) (readBackTags (W .board .table .words) k) ≡ take (W .board .askedRoom) (readBackTags (W .board .table .words) k)
   back-same W f k =
-      let few = back-few (W .board .table .words) k in
-      let r = f .rooms in
-      cut-same n (W .board .askedRoom) (readBackTags (W .board .table .words) k) (omega (arith, few, r .writes-fit, r .more)) (omega (arith, few, r .writes-fit))
+      let room = W .board .askedRoom in
+      let few = f .table-fits .backs k in
+      cut-same (room + n) room (readBackTags (W .board .table .words) k) (omega (arith, few, f .rooms .tags-fit)) (omega (arith, few, f .rooms .tags-fit))
 
-  alike-written : (W : Worker) → Fits rows n (W .board) → (a : Answer) → Alike (written W a) (written (roomed n W) a)
+  alike-written : (W : Worker) → Fits rows (W .board) → (a : Answer) → Alike (written W a) (written (roomed n W) a)
   unfolding written
   alike-written W f a =
       let B = W .board in
@@ -497,42 +480,42 @@ module _ (rows n : ℕ) where
       let asked = take (B .askedRoom) (readBackTags (B .table .words) k) in
       let few : length asked ≤ B .askedRoom = omega (arith, length-take (B .askedRoom) (readBackTags (B .table .words) k)) in
       rw (back-same W f k)
-      (alike-if (eqb (a .kind) 7) _ _ _ _ (alike-tell (phased (withBoard W (withAsked B asked)) ReadBack) _ asked (fits-asked rows n B f asked few) (omega (arith, few, f .rooms .cells-fit)))
+      (alike-if (eqb (a .kind) 7) _ _ _ _ (alike-tell (phased (withBoard W (withAsked B asked)) ReadBack) _ (tagBytes asked) (fits-asked rows B f asked few) (tags-few rows B f asked few))
       (alike-if (eqb (a .kind) 8) _ _ _ _ (alike-ask W f RefusedTold _) (alike-ask W f LostTold _)))
 
-  alike-read-back : (W : Worker) → Fits rows n (W .board) → (a : Answer) → Alike (readBack W a) (readBack (roomed n W) a)
+  alike-read-back : (W : Worker) → Fits rows (W .board) → (a : Answer) → Alike (readBack W a) (readBack (roomed n W) a)
   unfolding readBack
   alike-read-back W f a =
       let B = W .board in
       let few = length-take (resultCount (a .list)) (B .asked) in
-      let g : Fits rows n (withAsked B (take (resultCount (a .list)) (B .asked))) = fits-asked rows n B f _ (omega (arith, few, f .asked-few)) in
+      let g : Fits rows (withAsked B (take (resultCount (a .list)) (B .asked))) = fits-asked rows B f _ (omega (arith, few, f .asked-few)) in
       alike-if (eqb (a .kind) 6) _ _ _ _ (alike-ask W f LostTold _)
       (alike-tell (phased (withBoard W (keptBack B (a .list))) OutcomeTold) _ []
       (record { table-fits = g .table-fits; groups-fit = g .groups-fit; named = g .named; asked-few = g .asked-few; queue-few = g .queue-few; rooms = g .rooms }) (omega arith))
 
-  alike-back-applied : (W : Worker) → Fits rows n (W .board) → (at : At) → Alike (backApplied W at) (backApplied (roomed n W) at)
+  alike-back-applied : (W : Worker) → Fits rows (W .board) → (at : At) → Alike (backApplied W at) (backApplied (roomed n W) at)
   unfolding backApplied
   alike-back-applied W f at =
       let B = W .board in
       let C = appliedTo B (B .back) (at .clock) (at .wall) false in
       let next = withBoard W (C .board) in
-      let g = applied-fits rows n B f (B .back) (at .clock) (at .wall) false in
-      rw (applied-same rows n B f (B .back) (at .clock) (at .wall) false)
+      let g = applied-fits rows B f (B .back) (at .clock) (at .wall) false in
+      rw (applied-same rows B f (B .back) (at .clock) (at .wall) false n)
       (alike-if (isEmpty (C .changes)) _ _ _ _ (alike-writing at next g (W .head .progress .after))
-      (alike-tell (phased next BackTold) _ _ g (changes-few rows n B f (C .board .table .tags) (C .changes) (applied-few rows n B f (B .back) (at .clock) (at .wall) false))))
+      (alike-tell (phased next BackTold) _ _ g (changes-few rows B f (C .board .table .tags) (C .changes) (applied-few rows B f (B .back) (at .clock) (at .wall) false))))
 
-  alike-waited : (W : Worker) → Fits rows n (W .board) → (at : At) → Alike (waited W at) (waited (roomed n W) at)
+  alike-waited : (W : Worker) → Fits rows (W .board) → (at : At) → Alike (waited W at) (waited (roomed n W) at)
   unfolding waited
   alike-waited W f at = alike-writing at W f _
 
-  alike-backed-off : (W : Worker) → Fits rows n (W .board) → Alike (backedOff W) (backedOff (roomed n W))
+  alike-backed-off : (W : Worker) → Fits rows (W .board) → Alike (backedOff W) (backedOff (roomed n W))
   unfolding backedOff
   alike-backed-off W f = alike-if (W .head .link .stopping) _ _ _ _ (alike-ended W f) (alike-reconnecting W f)
 
-  alike-connect-answered : (W : Worker) → Fits rows n (W .board) → (a : Answer) → Alike (connectAnswered W a) (connectAnswered (roomed n W) a)
+  alike-connect-answered : (W : Worker) → Fits rows (W .board) → (a : Answer) → Alike (connectAnswered W a) (connectAnswered (roomed n W) a)
   alike-connect-answered W f a = alike-if (eqb (a .kind) 1) _ _ _ _ (alike-opened W f) (alike-down W f)
 
-  alike-taken : (p : Phase) (W : Worker) → Fits rows n (W .board) → (at : At) → Alike (taken p W at) (taken p (roomed n W) at)
+  alike-taken : (p : Phase) (W : Worker) → Fits rows (W .board) → (at : At) → Alike (taken p W at) (taken p (roomed n W) at)
   unfolding taken
   alike-taken Begin W f at = alike-top W f
   alike-taken Connect W f at = alike-top W f
@@ -569,7 +552,7 @@ module _ (rows n : ℕ) where
       go true q h = q
       go false q h = absurd (omega arith)
 
-  pub alike-handled : (p : Phase) (W : Worker) → Fits rows n (W .board) → (at : At) (a : Answer) → answers (awaited p) a ≡ true → contents W a ≡ 0 → Alike (handled p W at a) (handled p (roomed n W) at a)
+  pub alike-handled : (p : Phase) (W : Worker) → Fits rows (W .board) → (at : At) (a : Answer) → answers (awaited p) a ≡ true → contents W a ≡ 0 → Alike (handled p W at a) (handled p (roomed n W) at a)
   unfolding handled answers awaited
   alike-handled Begin W f at a k e = alike-top W f
   alike-handled Connect W f at a k e = alike-connect-answered W f a

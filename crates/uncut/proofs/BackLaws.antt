@@ -14,14 +14,14 @@ use Rattle.memory.specs.Cells.{cellsIn, wordAt}
 use Rattle.memory.proofs.CellLaws.{cells-at}
 use Rattle.values.specs.declared.value.Value.the-variants.{Null}
 use Rattle.words.specs.Value.{valueFrom}
-use Rattle.lent.specs.Lent.{overBytes}
+use Rattle.lent.specs.Lent.{overBytes, tagBytes}
 use Rattle.lent.proofs.LentLaws.{over-length}
 use Rattle.results.specs.Results.{resultCount, resultIn}
 use Rattle.versions.specs.Versions.{isReloaded}
-use Rattle.writes.specs.Queue.{popped}
-use Rattle.writes.specs.ReadBack.{readBackTags, readBackFirst}
-use Rattle.writes.specs.declared.queue.Popped.{Popped}
-use Rattle.writes.specs.declared.queue.Popped.the-variants.{Nothing, Is}
+use Rattle.queue.specs.Queue.{popped}
+use Rattle.writes.specs.ReadBack.{readBackTags, readBackFirst, keptBack}
+use Rattle.queue.specs.declared.Popped.{Popped}
+use Rattle.queue.specs.declared.Popped.the-variants.{Nothing, Is}
 use Rattle.heads.specs.Link.{isState}
 use Rattle.heads.specs.Progress.{phaseNumber}
 use Rattle.heads.specs.Stats.{tailStats, readStats, reconnected}
@@ -30,9 +30,9 @@ use Rattle.heads.specs.declared.progress.After.{After}
 use Rattle.heads.specs.declared.progress.After.the-variants.{Tail, Idle, End}
 use Rattle.heads.specs.declared.progress.Phase.{Phase}
 use Rattle.heads.specs.declared.progress.Phase.the-variants.{Begin, Connect, OpenVersion, Version, Read, Describe, Write, ReadBack, Wait, Backoff, OpenFailedTold, OpenMetaTold, ConnectedTold, MetaTold, ValuesTold, InfoTold, RefusedTold, LostTold, OutcomeTold, BackTold, FailedTold, StaleTold, DisconnectedTold, ConnectingTold, Stopped}
-use Rattle.polls.specs.Polls.{staledIn, appliedTo}
-use Rattle.talks.specs.Talks.{describing, keptBack}
-use Rattle.board.specs.Creation.{freshBoard}
+use Rattle.readings.specs.Changes.{staledIn, appliedTo}
+use Rattle.descriptions.specs.Descriptions.{describing}
+use Rattle.fresh.specs.Fresh.{freshBoard}
 use Rattle.replies.specs.Reply as reply
 use Rattle.replies.specs.Worker.{Worker, At, at, Told, tell, asks, withBoard, phased, tallied, goesOn}
 use Rattle.replies.specs.Losing.{isEmpty, ended, backingOff, disconnected, staling, down, top}
@@ -140,7 +140,7 @@ module _ (at : At) where
   apart-poll W =
       let R = roundAt W at in
       let next = withWorked W at R in
-      let rest : Apart next (cond (isEmpty (R .list)) (reading next at) (tell (phased next Read) (reply.read (length (R .list))) (R .list))) =
+      let rest : Apart next (cond (isEmpty (R .list)) (reading next at) (tell (phased next Read) (reply.read (length (R .list))) (tagBytes (R .list)))) =
       either (Apart next) (isEmpty (R .list)) _ _ (apart-reading next) (record { away = λ w. refl; long = refl }) in
       either (Apart W) (W .head .link .stopping) _ _ (apart-writing W End) (record { away = λ w. rest .away w; long = rest .long })
 

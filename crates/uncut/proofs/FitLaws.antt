@@ -19,18 +19,17 @@ use Rattle.tags.proofs.ListLaws.{pushed-more}
 use Rattle.table.specs.Tag.{freshTag, noSettings}
 use Rattle.table.specs.declared.tag.Settings.{Settings}
 use Rattle.table.specs.declared.tag.Tag.{Tag}
-use Rattle.tiers.specs.Tiers.{Table, tagAt}
 use Rattle.tiers.specs.Graced.{Graced}
 use Rattle.groups.specs.Groups.{Groups, noted}
-use Rattle.rounds.specs.Added.{byRank}
+use Rattle.table.specs.Table.{byRank}
 use Rattle.rounds.specs.Due.{recordedDue}
-use Rattle.rounds.specs.Round.{withTags}
 use Rattle.settings.specs.Records.{recordsIn, every}
 use Rattle.settings.specs.Settings.{settingFrom, settingIn, settingOk, settingsOk, rateOk, maxGroups}
 use Rattle.settings.specs.declared.configured.Configured.{Configured}
 use Rattle.versions.specs.Versions.{tagTaken, takenAt, eachAt, tableTaken, versionTable, isChanged, takesSettings}
 use Rattle.versions.specs.declared.version.Version.{Version}
-use Rattle.board.specs.Board.{Board}
+use Rattle.board.specs.Board.{Board, Table, tagAt, withTags}
+use Rattle.writes.specs.ReadBack.{readBackTags}
 use Rattle.checks.specs.Calls.{maxWrites}
 use Rattle.uncut.specs.Uncut.{groupsRoomed}
 use Rattle.turns.proofs.TierLaws.{settingsOf}
@@ -138,7 +137,7 @@ pub record FitGroups (G : Groups) : Type 0 where
   pub numbers : FitNumbers (G .recorded)
   pub enough : maxGroups ≤ G .recordedRoom
 
-module _ (n : ℕ) (more : maxGroups ≤ n) where
+module _ (n : ℕ) where
   -- Rule 10: a group noted
   pub record Noted (G G' : Groups) : Type 0 where
     pub fits : FitGroups G
@@ -154,7 +153,7 @@ module _ (n : ℕ) (more : maxGroups ≤ n) where
           let z = not-named g (G .recorded) e in
           let short = numbers-short (G .recorded) (f .numbers) g h z in
           let a = pushed-more (G .recordedRoom) (G .recorded) g (omega (arith, short, f .enough)) in
-          let b = pushed-more n (G .recorded) g (omega (arith, short)) in
+          let b = pushed-more (G .recordedRoom + n) (G .recorded) g (omega (arith, short, f .enough)) in
           rw (e, a, b) (record { fits = record { numbers = fit-one-more (G .recorded) (f .numbers) g h z; enough = f .enough }; same = refl })
 
   either : (b : Bool) (x x' y y' : Groups) → Noted x x' → Noted y y' → Noted (cond b x y) (cond b x' y')
@@ -179,11 +178,12 @@ module _ (n : ℕ) (more : maxGroups ≤ n) where
 abbrev pub isGraced : Tag → Bool
 isGraced x = x .grace .on
 
--- A table of so many tags: its graces are those of its tags, and the groups of its tags are 0 to 15.
+-- A table of so many tags: its graces are those of its tags, the groups of its tags are 0 to 15, and a read-back is of no more tags than there are.
 pub record FitTable (rows : ℕ) (T : Table) : Type 0 where
   pub graced : Graced T
   pub long : length (T .tags) ≡ rows
   pub numbered : Numbered (T .tags)
+  pub backs : (k : ℕ) → length (readBackTags (T .words) k) ≤ rows
 
 -- the records of its tags replaced, each by one that is in grace if the old one is
 pub fit-tags : (rows : ℕ) (T : Table) (tags : List Tag) → map isGraced tags ≡ map isGraced (T .tags) → Numbered tags → FitTable rows T → FitTable rows (withTags T tags)
@@ -191,6 +191,7 @@ fit-tags rows T tags e r f = record {
   graced = record { once = λ k. f .graced .once k ∙ ap (λ (b : Bool). cond b 1 0) (sym (same k)); enough = rw long (f .graced .enough) };
   long = long ∙ f .long;
   numbered = r;
+  backs = f .backs;
 }
   where
     same : (k : ℕ) → getD tags k freshTag .grace .on ≡ tagAt T k .grace .on
@@ -201,22 +202,20 @@ fit-tags rows T tags e r f = record {
 
 -- ---- boards
 
--- The rooms of a board hold all tags, all writes that may wait and all groups, n is no less, and the room of a list is no more than the cells of a change for each tag.
-pub record Enough (rows n asked queue : ℕ) : Type 0 where
-  pub tags-fit : rows ≤ asked
-  pub writes-fit : maxWrites ≤ asked
+-- There is a tag at least. The list of tags asked for has a place for each, and the queue one for every write that may wait.
+pub record Enough (rows asked queue : ℕ) : Type 0 where
+  pub some : 1 ≤ rows
+  pub tags-fit : asked ≡ rows
   pub queue-fits : maxWrites ≤ queue
-  pub more : asked ≤ n
-  pub cells-fit : asked ≤ 7 * rows
 
 -- the numbers of the groups configured
 abbrev pub numbersOf : List Configured → List ℕ
 numbersOf l = map (λ (x : Configured). x .number) l
 
-pub record Fits (rows n : ℕ) (B : Board) : Type 0 where
+pub record Fits (rows : ℕ) (B : Board) : Type 0 where
   pub table-fits : FitTable rows (B .table)
   pub groups-fit : FitGroups (B .groups)
   pub named : Below maxGroups (numbersOf (B .configured))
   pub asked-few : length (B .asked) ≤ B .askedRoom
   pub queue-few : length (B .queue) ≤ maxWrites
-  pub rooms : Enough rows n (B .askedRoom) (B .queueRoom)
+  pub rooms : Enough rows (B .askedRoom) (B .queueRoom)

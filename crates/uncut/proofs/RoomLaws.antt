@@ -2,7 +2,7 @@
 use mathlib.Core.Path.{_≡_, refl, ap, sym, _∙_}
 use mathlib.Core.Bool.{Bool, true, false, not, cond}
 use mathlib.Core.List.{List, [], _∷_, _++_, map}
-use Prim.Native.Nat.{ℕ, _≤_, _<_}
+use Prim.Native.Nat.{ℕ, _+_, _≤_, _<_}
 use native.Mathlib.Omega.{arith}
 use lib.Dec.{eqb}
 use lib.Ieee.{Float, binary64, le, add, div}
@@ -15,10 +15,11 @@ use Rattle.lists.specs.Sort.{sort}
 use Rattle.lists.proofs.CountLaws.{length-fewer}
 use Rattle.tags.specs.Lists.{pushed}
 use Rattle.table.specs.Tag.{f0, noGrace, freshTag}
-use Rattle.table.specs.Table.{withGrace}
+use Rattle.table.specs.Table.{withGrace, byRank}
 use Rattle.table.specs.declared.tag.Grace.{Grace}
 use Rattle.table.specs.declared.tag.Tag.{Tag}
-use Rattle.tiers.specs.Tiers.{Table, tagAt, isBit, tagSet, orderSet, graceEnded, putTable, setTable, enterGrace, changeGrace, setTier}
+use Rattle.tiers.specs.Tiers.{tagSet, orderSet, graceEnded, putTable, setTable, enterGrace, changeGrace, setTier}
+use Rattle.board.specs.Board.{Table, tagAt, isBit, withTags}
 use Rattle.tiers.specs.Listed.{Listed, inTier}
 use Rattle.tiers.specs.Graced.{Graced}
 use Rattle.tiers.proofs.ListedLaws.{order-below, set-long, listed-set, listed-tier}
@@ -26,13 +27,12 @@ use Rattle.tiers.proofs.GracedLaws.{graces-once, graces-below, graced-set, grac
 use Rattle.panel.specs.Panel.{loaded}
 use Rattle.panel.proofs.LoadLaws.{long-tier}
 use Rattle.groups.specs.Groups.{Groups}
-use Rattle.settings.specs.Settings.{maxGroups}
 use Rattle.slices.specs.Slice.{isTier2, sliceTaken, nextIndex}
 use Rattle.rounds.specs.Graces.{runOut}
 use Rattle.rounds.specs.Due.{isDue, marked, recordedDue, noneSeen}
-use Rattle.rounds.specs.Added.{isAdded, byRank, settled}
+use Rattle.rounds.specs.Added.{isAdded, settled}
 use Rattle.rounds.specs.Missing.{isHeldBack}
-use Rattle.rounds.specs.Round.{Polling, Rooms, Round, withTags, cycleAfter, round}
+use Rattle.rounds.specs.Round.{Polling, Rooms, Round, cycleAfter, round}
 use Rattle.rounds.specs.declared.tick.Options.{Options}
 use Rattle.rounds.specs.declared.tick.Cycle.{Cycle}
 use Rattle.rounds.proofs.NameLaws.{expired-below}
@@ -47,33 +47,33 @@ use Rattle.uncut.proofs.FitLaws.{pushed-same, numbered-same, FitTable, 
 -- ---- tier changes
 
 -- a table with more room is listed, and its graces are those of its tags
-pub listed-roomed : (n : ℕ) (T : Table) → Listed T → length (T .tags) ≤ n → Listed (tableRoomed n T)
-listed-roomed n T l more = record { once = l .once; graced = l .graced; enough = more }
+listed-roomed : (n : ℕ) (T : Table) → Listed T → Listed (tableRoomed n T)
+listed-roomed n T l = record { once = l .once; graced = l .graced; enough = omega (arith, l .enough) }
 
-pub graced-roomed : (n : ℕ) (T : Table) → Graced T → length (T .tags) ≤ n → Graced (tableRoomed n T)
-graced-roomed n T g more = record { once = g .once; enough = more }
+graced-roomed : (n : ℕ) (T : Table) → Graced T → Graced (tableRoomed n T)
+graced-roomed n T g = record { once = g .once; enough = omega (arith, g .enough) }
 
 -- either of two
 either : (n : ℕ) (b : Bool) (x x' y y' : Table) → x' ≡ tableRoomed n x → y' ≡ tableRoomed n y → cond b x' y' ≡ tableRoomed n (cond b x y)
 either n true x x' y y' p q = p
 either n false x x' y y' p q = q
 
-module _ (n : ℕ) (T : Table) (l : Listed T) (more : length (T .tags) ≤ n) (k : ℕ) (h : k < length (T .tags)) where
+module _ (n : ℕ) (T : Table) (l : Listed T) (k : ℕ) (h : k < length (T .tags)) where
   -- a tag that enters finds room
   order-short : tagAt T k .tier ≡ 0 → length (T .order) < length (T .tags)
   order-short z = length-fewer (length (T .tags)) k (T .order) (order-below T l) (order-once T l) h (l .once k ∙ ap inTier z)
 
-  order-roomed : (tier : ℕ) → orderSet n (T .order) k (tagAt T k .tier) tier ≡ orderSet (T .orderRoom) (T .order) k (tagAt T k .tier) tier
+  order-roomed : (tier : ℕ) → orderSet (T .orderRoom + n) (T .order) k (tagAt T k .tier) tier ≡ orderSet (T .orderRoom) (T .order) k (tagAt T k .tier) tier
   unfolding orderSet
   order-roomed tier = go (eqb (tagAt T k .tier) 0) refl (eqb tier 0)
     where
       go : (a : Bool) → eqb (tagAt T k .tier) 0 ≡ a → (b : Bool)
-          → _≡_ {A = List ℕ} (cond a (cond b (T .order) (pushed n (T .order) k)) (cond b (keep (λ (x : ℕ). not (eqb k x)) (T .order)) (T .order)))
+          → _≡_ {A = List ℕ} (cond a (cond b (T .order) (pushed (T .orderRoom + n) (T .order) k)) (cond b (keep (λ (x : ℕ). not (eqb k x)) (T .order)) (T .order)))
           (cond a (cond b (T .order) (pushed (T .orderRoom) (T .order) k)) (cond b (keep (λ (x : ℕ). not (eqb k x)) (T .order)) (T .order)))
       go true e true = refl
       go true e false =
           let s = order-short (eqb-true (tagAt T k .tier) 0 e) in
-          pushed-same n (T .orderRoom) (T .order) k (omega (arith, s)) (omega (arith, s, l .enough))
+          pushed-same (T .orderRoom + n) (T .orderRoom) (T .order) k (omega (arith, s, l .enough)) (omega (arith, s, l .enough))
       go false e b = refl
 
   put-roomed : (tier : ℕ) (g : Grace) → putTable (tableRoomed n T) k tier g ≡ tableRoomed n (putTable T k tier g)
@@ -101,7 +101,7 @@ module _ (n : ℕ) (T : Table) (l : Listed T) (more : length (T .tags) ≤ n) (k
     enter-roomed : (deadline : Float) (after : ℕ) → enterGrace (tableRoomed n T) k deadline after ≡ tableRoomed n (enterGrace T k deadline after)
     unfolding enterGrace putTable
     enter-roomed deadline after =
-        rw (order-roomed 2, pushed-same n (T .graceRoom) ended k (omega (arith, ended-short)) (omega (arith, ended-short, g .enough)))
+        rw (order-roomed 2, pushed-same (T .graceRoom + n) (T .graceRoom) ended k (omega (arith, ended-short, g .enough)) (omega (arith, ended-short, g .enough)))
 
     -- Rule 5: a tier call
     pub tier-roomed : (tier : ℕ) (grace clock : Float) → setTier (tableRoomed n T) k tier grace clock ≡ tableRoomed n (setTier T k tier grace clock)
@@ -114,34 +114,56 @@ module _ (n : ℕ) (T : Table) (l : Listed T) (more : length (T .tags) ≤ n) (k
         (either n (eqb (tagAt T k .tier) 1) _ _ _ _ (enter-roomed (add binary64 clock grace) tier)
         (either n (tagAt T k .grace .on) _ (changeGrace (tableRoomed n T) k tier) _ _ refl now))))
 
+-- a tier call keeps the words of bits
+either-words : (ws : List ℕ) (b : Bool) (x y : Table) → x .words ≡ ws → y .words ≡ ws → cond b x y .words ≡ ws
+either-words ws true x y p q = p
+either-words ws false x y p q = q
+
+tier-words : (T : Table) (k tier : ℕ) (grace clock : Float) → setTier T k tier grace clock .words ≡ T .words
+unfolding setTier enterGrace putTable
+tier-words T k tier grace clock =
+    let w = T .words in
+    either-words w (eqb tier 1) _ _ refl
+    (either-words w (eqb tier 2) _ _ refl
+    (either-words w (le grace f0) _ _ refl
+    (either-words w (eqb (tagAt T k .tier) 1) _ _ refl
+    (either-words w (tagAt T k .grace .on) _ _ refl refl))))
+
+-- so do graces that run out
+run-out-words : (T : Table) (ks : List ℕ) → runOut T ks .words ≡ T .words
+unfolding runOut putTable
+run-out-words T [] = refl
+run-out-words T (k ∷ ks) = run-out-words (setTable T k (tagAt T k .grace .after)) ks
+
 -- a tier call keeps what fits
 pub fit-tier : (rows : ℕ) (T : Table) → Listed T → FitTable rows T → (k : ℕ) → k < length (T .tags) → (tier : ℕ) (grace clock : Float) → FitTable rows (setTier T k tier grace clock)
 fit-tier rows T l f k h tier grace clock = record {
   graced = graced-tier T (f .graced) k h tier grace clock;
   long = long-tier T l k h tier grace clock ∙ f .long;
   numbered = numbered-same (setTier T k tier grace clock .tags) (T .tags) (tier-settings T k tier grace clock) (f .numbered);
+  backs = rw (tier-words T k tier grace clock) (f .backs);
 }
 
 -- Rule 11: a load is tier calls
-pub load-roomed : (rows n : ℕ) → rows ≤ n → (T : Table) → Listed T → FitTable rows T → (ks ts : List ℕ) (grace clock : Float) → Below (length (T .tags)) ks
+pub load-roomed : (rows n : ℕ) (T : Table) → Listed T → FitTable rows T → (ks ts : List ℕ) (grace clock : Float) → Below (length (T .tags)) ks
     → (loaded (tableRoomed n T) ks ts grace clock ≡ tableRoomed n (loaded T ks ts grace clock)) × FitTable rows (loaded T ks ts grace clock)
 unfolding loaded
-load-roomed rows n more T l f [] ts grace clock b = (refl, f)
-load-roomed rows n more T l f (k ∷ ks) [] grace clock b = (refl, f)
-load-roomed rows n more T l f (k ∷ ks) (t ∷ ts) grace clock b =
+load-roomed rows n T l f [] ts grace clock b = (refl, f)
+load-roomed rows n T l f (k ∷ ks) [] grace clock b = (refl, f)
+load-roomed rows n T l f (k ∷ ks) (t ∷ ts) grace clock b =
     let X = setTier T k t grace clock in
-    let r = load-roomed rows n more X (listed-tier T l k (b .0) t grace clock) (fit-tier rows T l f k (b .0) t grace clock) ks ts grace clock (rw (long-tier T l k (b .0) t grace clock) (b .1)) in
-    (ap (λ (Y : Table). loaded Y ks ts grace clock) (tier-roomed n T l (omega (arith, f .long)) k (b .0) (f .graced) t grace clock) ∙ r .0, r .1)
+    let r = load-roomed rows n X (listed-tier T l k (b .0) t grace clock) (fit-tier rows T l f k (b .0) t grace clock) ks ts grace clock (rw (long-tier T l k (b .0) t grace clock) (b .1)) in
+    (ap (λ (Y : Table). loaded Y ks ts grace clock) (tier-roomed n T l k (b .0) (f .graced) t grace clock) ∙ r .0, r .1)
 
 -- Rule 6: graces that run out
-run-out-roomed : (n : ℕ) (T : Table) → Listed T → length (T .tags) ≤ n → (ks : List ℕ) → Below (length (T .tags)) ks → runOut (tableRoomed n T) ks ≡ tableRoomed n (runOut T ks)
+run-out-roomed : (n : ℕ) (T : Table) → Listed T → (ks : List ℕ) → Below (length (T .tags)) ks → runOut (tableRoomed n T) ks ≡ tableRoomed n (runOut T ks)
 unfolding runOut
-run-out-roomed n T l more [] b = refl
-run-out-roomed n T l more (k ∷ ks) b =
+run-out-roomed n T l [] b = refl
+run-out-roomed n T l (k ∷ ks) b =
     let after = tagAt T k .grace .after in
     let long = set-long T l k (b .0) after in
-    ap (λ (Y : Table). runOut Y ks) (set-roomed n T l more k (b .0) after)
-    ∙ run-out-roomed n (setTable T k after) (listed-set T l k after (b .0)) (rw long more) ks (rw long (b .1))
+    ap (λ (Y : Table). runOut Y ks) (set-roomed n T l k (b .0) after)
+    ∙ run-out-roomed n (setTable T k after) (listed-set T l k after (b .0)) ks (rw long (b .1))
 
 -- ---- a round
 
@@ -155,12 +177,12 @@ abbrev pub pollingRoomed : ℕ → Polling → Polling
 pollingRoomed n P = record { table = tableRoomed n (P .table); groups = groupsRoomed n (P .groups); cycle = P .cycle }
 
 module _ (less : ℕ → ℕ → Bool) (rows room n : ℕ) (o : Options) (P : Polling) (clock : Float) (l : Listed (P .table)) (f : FitTable rows (P .table)) (g : FitGroups (P .groups))
-    (fit : rows ≤ room) (more : room ≤ n) (all : maxGroups ≤ n) where
+    (fit : rows ≤ room) where
   abbrev R : Round
   R = round less (roomsOf room) o P clock
 
   abbrev R' : Round
-  R' = round less (roomsOf n) o (pollingRoomed n P) clock
+  R' = round less (roomsOf (room + n)) o (pollingRoomed n P) clock
 
   abbrev T : Table
   T = P .table
@@ -181,10 +203,10 @@ module _ (less : ℕ → ℕ → Bool) (rows room n : ℕ) (o : Options) (P : Po
   pub whole : Whole less (roomsOf room) o P clock
   whole = let h : length (T .tags) ≤ room = omega (arith, f .long) in round-uncut less (roomsOf room) o P clock l (f .graced) h h h
 
-  whole' : Whole less (roomsOf n) o (pollingRoomed n P) clock
+  whole' : Whole less (roomsOf (room + n)) o (pollingRoomed n P) clock
   whole' =
-      let h : length (T .tags) ≤ n = omega (arith, f .long) in
-      round-uncut less (roomsOf n) o (pollingRoomed n P) clock (listed-roomed n T l h) (graced-roomed n T (f .graced) h) h h h
+      let h : length (T .tags) ≤ room + n = omega (arith, f .long) in
+      round-uncut less (roomsOf (room + n)) o (pollingRoomed n P) clock (listed-roomed n T l) (graced-roomed n T (f .graced)) h h h
 
   ran-out-same : R' .ranOut ≡ R .ranOut
   unfolding round
@@ -195,7 +217,7 @@ module _ (less : ℕ → ℕ → Bool) (rows room n : ℕ) (o : Options) (P : Po
   ran-out-below = expired-below T l (R .boundary) room clock
 
   left-same : left' ≡ tableRoomed n left
-  left-same = ap (runOut (tableRoomed n T)) ran-out-same ∙ run-out-roomed n T l (omega (arith, f .long)) (R .ranOut) ran-out-below
+  left-same = ap (runOut (tableRoomed n T)) ran-out-same ∙ run-out-roomed n T l (R .ranOut) ran-out-below
 
   due-same : R' .due ≡ R .due
   unfolding round
@@ -242,10 +264,10 @@ module _ (less : ℕ → ℕ → Bool) (rows room n : ℕ) (o : Options) (P : Po
   boundary-same = refl
 
   -- the groups of the tags as they are read
-  due-noted : Noted n all (recordedDue read clock noneSeen (P .groups) (R .due)) (recordedDue read clock noneSeen (groupsRoomed n (P .groups)) (R .due))
+  due-noted : Noted n (recordedDue read clock noneSeen (P .groups) (R .due)) (recordedDue read clock noneSeen (groupsRoomed n (P .groups)) (R .due))
   unfolding round
   due-noted =
-      due-fits n all read (numbered-same read (T .tags) (sym (map-kept settingsOf settled (λ x. refl) read) ∙ round-settings less (roomsOf room) o P clock) (f .numbered))
+      due-fits n read (numbered-same read (T .tags) (sym (map-kept settingsOf settled (λ x. refl) read) ∙ round-settings less (roomsOf room) o P clock) (f .numbered))
       clock noneSeen (P .groups) g (R .due)
 
   -- the table, the groups and the last boundary that it leaves
@@ -262,11 +284,16 @@ module _ (less : ℕ → ℕ → Bool) (rows room n : ℕ) (o : Options) (P : Po
       ∙ ap (λ (G : Groups). polling (withTags (tableRoomed n left) (map settled read)) G (ends (R .tier2))) (due-noted .same)
 
   -- a round keeps what fits
+  round-words : R .after .table .words ≡ T .words
+  unfolding round
+  round-words = run-out-words T (R .ranOut)
+
   pub round-fits : FitTable rows (R .after .table)
   round-fits = record {
     graced = graced-round less (roomsOf room) o P clock l (f .graced);
     long = round-long less (roomsOf room) o P clock l ∙ f .long;
     numbered = numbered-same (R .after .table .tags) (T .tags) (round-settings less (roomsOf room) o P clock) (f .numbered);
+    backs = rw round-words (f .backs);
   }
 
   pub groups-fit : FitGroups (R .after .groups)

@@ -3,25 +3,26 @@ use mathlib.Core.Path.{_≡_, refl, ap, sym, _∙_}
 use mathlib.Core.Bool.{Bool, true, false, not, _&&_, cond}
 use mathlib.Core.List.{List, [], _∷_, _++_, map}
 use mathlib.Core.Option.{some}
-use Prim.Native.Nat.{ℕ, zero, suc, _*_, _/_, _%_, _≤_, _<_}
+use Prim.Native.Nat.{ℕ, zero, suc, _-_, _*_, _/_, _≤_, _<_}
 use native.Mathlib.Omega.{arith}
 use lib.Dec.{eqb, ltb, leb}
 use lib.Ieee.{Float}
-use lib.ListN.{length, getD, take, replicate, length-append, length-map, length-replicate}
+use lib.ListN.{length, getD, replicate, length-append, length-map, length-replicate, List·getD-eq-default}
 use lib.Seq.{take-all}
 use borrow.Author.Tests.{eqb-true, ltb-true, ltb-false, leb-true, leb-false, lt-ltb}
-use Rattle.lists.specs.Keep.{Below, upTo}
+use Rattle.lists.specs.Keep.{Below}
 use Rattle.lists.specs.Sort.{byKeys}
-use Rattle.lists.proofs.KeepLaws.{below-more, length-upTo}
+use Rattle.lists.proofs.KeepLaws.{below-more}
 use Rattle.names.specs.Directory.{namesOf, directoryCheck, maxNames, maxNameLength}
-use Rattle.names.specs.Keys.{keyOf}
 use Rattle.names.proofs.DirectoryLaws.{length-names}
-use Rattle.ranks.specs.Ranks.{over, keysOf, wordCode, wordsOf, eachTag}
+use Rattle.ranks.specs.Ranks.{over, wordCode, wordsOf}
+use Rattle.ranks.proofs.Laws.{over-all, each-long}
+use Rattle.ranks.proofs.WordLaws.{word-differs, word-below}
 use Rattle.words.specs.Value.{valueFrom}
 use Rattle.memory.proofs.RowLaws.{map-at}
 use Rattle.values.specs.declared.value.Value.{Value}
 use Rattle.table.specs.Tag.{freshTag}
-use Rattle.tiers.specs.Tiers.{Table, setTier}
+use Rattle.tiers.specs.Tiers.{setTier}
 use Rattle.panel.specs.Panel.{panelCheck, tagsOf, tiersOf}
 use Rattle.settings.specs.Records.{recordsIn, every}
 use Rattle.settings.specs.Settings.{settingsOk, maxGroups, rateOk}
@@ -30,18 +31,19 @@ use Rattle.settings.proofs.GroupLaws.{length-given}
 use Rattle.results.specs.Results.{valueOk}
 use Rattle.versions.specs.Versions.{tagTaken, takenAt, tableTaken}
 use Rattle.rounds.specs.Options.{optionsCheck}
-use Rattle.rounds.specs.Round.{Round}
+use Rattle.rounds.specs.Round.{Round, pollingOf}
 use Rattle.rounds.specs.declared.tick.Options.{Options}
 use Rattle.heads.specs.Link.{isState}
 use Rattle.heads.specs.declared.link.State.the-variants.{Connected}
 use Rattle.heads.specs.declared.progress.After.the-variants.{End}
-use Rattle.lent.specs.Lent.{wroteAll, wroteCells}
+use Rattle.lent.specs.Lent.{overBytes, wroteAll}
+use Rattle.lent.specs.Changes.{changeSize}
 use Rattle.lent.proofs.LentLaws.{all-fits}
 use Rattle.histories.specs.Events.{Each}
 use Rattle.histories.specs.Histories.{atEach, answers, states}
-use Rattle.board.specs.Board.{Board, withTable}
-use Rattle.polls.specs.Polls.{pollingOf}
-use Rattle.board.specs.Creation.{freshBoard, freshWords, noNumbers, tagRoom, listRoom, configuredRoom}
+use Rattle.board.specs.Board.{Board, withTable, Table}
+use Rattle.fresh.specs.Fresh.{configuredRoom, freshBoard}
+use Rattle.writes.specs.ReadBack.{readBackTags}
 use Rattle.replies.specs.Worker.{Worker, At, Told, tell, at, goesOn}
 use Rattle.cycles.specs.Polling.{waiting, writing, roundAt, polled, poll, lastly, finished}
 use Rattle.replies.specs.Reply as reply
@@ -55,13 +57,13 @@ use Rattle.capi.specs.Creation.{freshWorker}
 use Rattle.turns.specs.Calls.{Call, tier, load, steps, write, stop, lookState, lookStats, lookCounts, lookGroups, lookTable, lookPanel, lookTag, Answer as Said, accepted, answer, after}
 use Rattle.turns.specs.Demand.{Moment, moment}
 use Rattle.turns.specs.Once.{answeredTo}
-use Rattle.uncut.specs.Uncut.{roomed, NeverCut, WholeAt, WholeStep, StepsWhole, WholeSetup, SetupsWhole}
+use Rattle.uncut.specs.Uncut.{roomed, NeverCut, WholeAt, WholeStep, StepsWhole, SetupsWhole}
 use Rattle.turns.proofs.KeepLaws.{Keeps}
 use Rattle.turns.proofs.StillLaws.{still-writing, still-handled}
 use Rattle.turns.proofs.StepLaws.{Accepted, accepted-step, step-cases}
 use Rattle.turns.proofs.SoundLaws.{Sound, sound-kept, sound-clocked}
 use Rattle.turns.proofs.RateLaws.{both}
-use Rattle.turns.proofs.CallLaws.{tier-inside, panel-inside, names-few, settings-good, sound-fresh, sound-after}
+use Rattle.turns.proofs.CallLaws.{tier-inside, panel-inside, names-some, names-few, settings-good, sound-fresh, sound-after}
 use Rattle.uncut.proofs.FitLaws.{isGraced, numbered-taken, FitTable, numbersOf, Fits}
 use Rattle.uncut.proofs.RoomLaws.{tier-roomed, fit-tier, load-roomed, whole}
 use Rattle.uncut.proofs.AlikeLaws.{each-kept, fits-queue, Alike, alike-tell, alike-finished, alike-handled}
@@ -69,7 +71,7 @@ use Rattle.uncut.proofs.AlikeLaws.{each-kept, fits-queue, Alike, alike-
 -- ---- a step
 
 module _ (o : Options) (ns : List (List ℕ)) (rows n : ℕ) where
-  module _ (W : Worker) (s : Sound o ns W) (f : Fits rows n (W .board)) (at : At) (a : Answer) where
+  module _ (W : Worker) (s : Sound o ns W) (f : Fits rows (W .board)) (at : At) (a : Answer) where
     -- the engine as an accepted answer leaves it is listed
     answered-sound : Accepted W at a → Sound o ns (answeredTo W at a .left)
     answered-sound c =
@@ -98,15 +100,14 @@ module _ (o : Options) (ns : List (List ℕ)) (rows n : ℕ) where
     whole-answered c =
         let M = answeredTo W at a .left in
         let g = alike-answered c .fits in
-        let r = g .rooms in
         whole (byKeys (M .board .keys)) rows (M .board .askedRoom) n (M .head .options) (pollingOf (M .board) (M .head .cycle)) (at .clock)
-        (answered-sound c .listed) (g .table-fits) (g .groups-fit) (r .tags-fit) (r .more) (omega (arith, r .writes-fit, r .more))
+        (answered-sound c .listed) (g .table-fits) (g .groups-fit) (omega (arith, g .rooms .tags-fit))
 
 -- what follows a round works out none
 lastly-round : (now : At) (T : Told) → lastly T now .round ≡ T .round
 lastly-round now T = go (goesOn T)
   where
-    go : (b : Bool) → cond b (record { left = waiting (T .left) now .left; reply = waiting (T .left) now .reply; cells = []; round = T .round }) T .round ≡ T .round
+    go : (b : Bool) → cond b (record { left = waiting (T .left) now .left; reply = waiting (T .left) now .reply; bytes = []; round = T .round }) T .round ≡ T .round
     go true = refl
     go false = refl
 
@@ -140,25 +141,25 @@ step-round W now a out R =
 
 -- ---- the list that a step is lent
 
--- Check 43: one with fewer places than tags is refused
-out-enough : (W : Worker) (now : At) (a : Answer) (out : ℕ) → stepCheck W now a out ≡ 0 → length (W .board .table .tags) ≤ out / 56
+-- Check 43: one without a place for every name that a directory can have is refused
+out-enough : (W : Worker) (now : At) (a : Answer) (out : ℕ) → stepCheck W now a out ≡ 0 → maxNames ≤ out / changeSize
 unfolding stepCheck
-out-enough W now a out e = go (ltb (out / 56) (length (W .board .table .tags))) refl _ e
+out-enough W now a out e = go (ltb (out / changeSize) maxNames) refl _ e
   where
-    go : (b : Bool) → ltb (out / 56) (length (W .board .table .tags)) ≡ b → (m : ℕ) → _≡_ {A = ℕ} (cond b 43 m) 0 → length (W .board .table .tags) ≤ out / 56
+    go : (b : Bool) → ltb (out / changeSize) maxNames ≡ b → (m : ℕ) → _≡_ {A = ℕ} (cond b 43 m) 0 → maxNames ≤ out / changeSize
     go true p m e = absurd (omega arith)
-    go false p m e = ltb-false (out / 56) (length (W .board .table .tags)) p
+    go false p m e = ltb-false (out / changeSize) maxNames p
 
--- so all cells of a step stand in it
-cells-written : (o : Options) (ns : List (List ℕ)) (rows n : ℕ) (W : Worker) → Sound o ns W → Fits rows n (W .board) → (now : At) (a : Answer) (out : List ℕ)
-    → wroteAll out (step W now a (length out) .cells) ≡ wroteCells out (step W now a (length out) .cells)
+-- so all bytes of a step stand in it
+bytes-written : (o : Options) (ns : List (List ℕ)) (rows n : ℕ) → rows ≤ maxNames → (W : Worker) → Sound o ns W → Fits rows (W .board) → (now : At) (a : Answer) (out : List ℕ)
+    → wroteAll out (step W now a (length out) .bytes) ≡ overBytes out (step W now a (length out) .bytes)
 unfolding step
-cells-written o ns rows n W s f now a out = all-fits out (step W now a (length out) .cells) (go (eqb (stepCheck W now a (length out)) 0) refl)
+bytes-written o ns rows n within W s f now a out = all-fits out (step W now a (length out) .bytes) (go (eqb (stepCheck W now a (length out)) 0) refl)
   where
-    go : (b : Bool) → eqb (stepCheck W now a (length out)) 0 ≡ b → 8 * length (step W now a (length out) .cells) ≤ length out
+    go : (b : Bool) → eqb (stepCheck W now a (length out)) 0 ≡ b → length (step W now a (length out) .bytes) ≤ length out
     go true e =
-        let few = alike-step o ns rows n W s f now a (length out) .cells-few in
-        omega (arith, few, f .table-fits .long, out-enough W now a (length out) (eqb-true (stepCheck W now a (length out)) 0 e))
+        let few = alike-step o ns rows n W s f now a (length out) .bytes-few in
+        omega (arith, few, within, out-enough W now a (length out) (eqb-true (stepCheck W now a (length out)) 0 e))
     go false e = rw e (omega arith)
 
 -- ---- every call
@@ -166,16 +167,16 @@ cells-written o ns rows n W s f now a out = all-fits out (step W now a (length o
 module _ (o : Options) (ns : List (List ℕ)) (rows n : ℕ) where
   -- A call with more room: the engine that it leaves fits, and is the same but for the rooms; so is the answer.
   record Same (c : Call) (W : Worker) : Type 0 where
-    fits : Fits rows n (after c W .board)
+    fits : Fits rows (after c W .board)
     after-same : after c (roomed n W) ≡ roomed n (after c W)
     answer-same : answer c (roomed n W) ≡ answer c W
 
   -- a call whose checks came to m: what it leaves
   record Left (m : ℕ) (done done' W : Worker) : Type 0 where
-    left-fits : Fits rows n (accepted m done W .board)
+    left-fits : Fits rows (accepted m done W .board)
     left-same : accepted m done' (roomed n W) ≡ roomed n (accepted m done W)
 
-  left-if : (m : ℕ) (done done' W : Worker) → (m ≡ 0 → Fits rows n (done .board) × (done' ≡ roomed n done)) → Fits rows n (W .board) → Left m done done' W
+  left-if : (m : ℕ) (done done' W : Worker) → (m ≡ 0 → Fits rows (done .board) × (done' ≡ roomed n done)) → Fits rows (W .board) → Left m done done' W
   left-if m done done' W p f = go (eqb m 0) refl
     where
       go : (b : Bool) → eqb m 0 ≡ b → Left m done done' W
@@ -183,15 +184,12 @@ module _ (o : Options) (ns : List (List ℕ)) (rows n : ℕ) where
       go false e = record { left-fits = rw e f; left-same = rw e }
 
   -- the table replaced
-  fits-table : (B : Board) → Fits rows n B → (T : Table) → FitTable rows T → Fits rows n (withTable B T)
+  fits-table : (B : Board) → Fits rows B → (T : Table) → FitTable rows T → Fits rows (withTable B T)
   fits-table B f T t = record { table-fits = t; groups-fit = f .groups-fit; named = f .named; asked-few = f .asked-few; queue-few = f .queue-few; rooms = f .rooms }
 
-  module _ (W : Worker) (s : Sound o ns W) (f : Fits rows n (W .board)) where
+  module _ (W : Worker) (s : Sound o ns W) (f : Fits rows (W .board)) where
     abbrev T : Table
     T = W .board .table
-
-    more : rows ≤ n
-    more = omega (arith, f .rooms .tags-fit, f .rooms .more)
 
     -- Rule 5: a tier call
     tier-left : (clock : Float) (tag to : ℕ) → Left (tierCheck W clock tag to) (tiered W clock tag to) (tiered (roomed n W) clock tag to) W
@@ -201,7 +199,7 @@ module _ (o : Options) (ns : List (List ℕ)) (rows n : ℕ) where
         let grace = W .head .options .grace in
         let h : tag < length (T .tags) = omega (arith, tier-inside o ns W s clock tag to e, s .few) in (
           fits-table (W .board) f (setTier T tag to grace clock) (fit-tier rows T (s .listed) t tag h to grace clock),
-          rw (tier-roomed n T (s .listed) (omega (arith, t .long, more)) tag h (t .graced) to grace clock),
+          rw (tier-roomed n T (s .listed) tag h (t .graced) to grace clock),
         )) f
 
     -- Rule 11: a load
@@ -210,7 +208,7 @@ module _ (o : Options) (ns : List (List ℕ)) (rows n : ℕ) where
     load-left clock list =
         left-if (loadCheck W clock list) _ _ W (λ e.
         let i = panel-inside o ns W s (W .head .count) list (first-zero (panelCheck (W .head .count) list) _ (first-zero (clockCheck W clock) _ e .1) .0) in
-        let r = load-roomed rows n more T (s .listed) (f .table-fits) (tagsOf list) (tiersOf list) (W .head .options .grace) clock (below-more (W .head .count) (length (T .tags)) (tagsOf list) (s .few) i) in
+        let r = load-roomed rows n T (s .listed) (f .table-fits) (tagsOf list) (tiersOf list) (W .head .options .grace) clock (below-more (W .head .count) (length (T .tags)) (tagsOf list) (s .few) i) in
         (fits-table (W .board) f _ (r .1), rw (r .0))) f
 
     -- Check 32: a write that is accepted finds fewer than 32 waiting
@@ -231,11 +229,10 @@ module _ (o : Options) (ns : List (List ℕ)) (rows n : ℕ) where
         let q = W .board .queue in
         let w = writeOf tag v in
         let h = few-wait tag v e in
-        let r = f .rooms in
-        let a = lt-ltb (length q) (W .board .queueRoom) (omega (arith, h, r .queue-fits)) in
-        let b = lt-ltb (length q) n (omega (arith, h, r .writes-fit, r .more)) in
+        let a = lt-ltb (length q) (W .board .queueRoom) (omega (arith, h, f .rooms .queue-fits)) in
+        let b = lt-ltb (length q) (roomed n W .board .queueRoom) (omega (arith, h, f .rooms .queue-fits)) in
         let long = length-append q (w ∷ []) in
-        (rw a (fits-queue rows n (W .board) f (q ++ (w ∷ [])) (omega (arith, h, long))), rw (a, b))) f
+        (rw a (fits-queue rows (W .board) f (q ++ (w ∷ [])) (omega (arith, h, long))), rw (a, b))) f
 
     -- every call
     same-call : (c : Call) → Same c W
@@ -244,7 +241,7 @@ module _ (o : Options) (ns : List (List ℕ)) (rows n : ℕ) where
     same-call (load clock list) = let x = load-left clock list in record { fits = x .left-fits; after-same = x .left-same; answer-same = refl }
     same-call (steps clock wall kind number message list out) =
         let a = alike-step o ns rows n W s f (at clock wall) (answerOf kind number message list) (length out) in
-        record { fits = a .fits; after-same = a .left-same; answer-same = rw (a .reply-same, a .cells-same) }
+        record { fits = a .fits; after-same = a .left-same; answer-same = rw (a .reply-same, a .bytes-same) }
     same-call (write tag kind word) = let x = write-left tag (valueFrom kind word) in record { fits = x .left-fits; after-same = x .left-same; answer-same = refl }
     same-call stop = record { fits = f; after-same = refl; answer-same = refl }
     same-call lookState = record { fits = f; after-same = refl; answer-same = refl }
@@ -256,23 +253,23 @@ module _ (o : Options) (ns : List (List ℕ)) (rows n : ℕ) where
     same-call (lookTag tag) = record { fits = f; after-same = refl; answer-same = refl }
 
     -- the lists of a step
-    whole-call : (c : Call) → WholeStep (moment c W)
+    whole-call : rows ≤ maxNames → (c : Call) → WholeStep (moment c W)
     unfolding WholeStep
-    whole-call (tier clock tag to) = tt
-    whole-call (load clock list) = tt
-    whole-call (steps clock wall kind number message list out) =
+    whole-call within (tier clock tag to) = tt
+    whole-call within (load clock list) = tt
+    whole-call within (steps clock wall kind number message list out) =
         let now = at clock wall in
         let a = answerOf kind number message list in
-        (λ R e. let r = step-round W now a (length out) R e in (r .1, whole-answered o ns rows n W s f now a (r .0)), cells-written o ns rows n W s f now a out)
-    whole-call (write tag kind word) = tt
-    whole-call stop = tt
-    whole-call lookState = tt
-    whole-call lookStats = tt
-    whole-call lookCounts = tt
-    whole-call (lookGroups out) = tt
-    whole-call (lookTable out) = tt
-    whole-call (lookPanel out) = tt
-    whole-call (lookTag tag) = tt
+        (λ R e. let r = step-round W now a (length out) R e in (r .1, whole-answered o ns rows n W s f now a (r .0)), bytes-written o ns rows n within W s f now a out)
+    whole-call within (write tag kind word) = tt
+    whole-call within stop = tt
+    whole-call within lookState = tt
+    whole-call within lookStats = tt
+    whole-call within lookCounts = tt
+    whole-call within (lookGroups out) = tt
+    whole-call within (lookTable out) = tt
+    whole-call within (lookPanel out) = tt
+    whole-call within (lookTag tag) = tt
 
 -- ---- creation
 
@@ -300,19 +297,33 @@ numbers-below (ws ∷ rs) e =
     let h : getD ws 0 0 < maxGroups = ltb-true (getD ws 0 0) maxGroups (both (ltb (getD ws 0 0) maxGroups) (rateOk (getD ws 1 0)) (b .0) .0) in
     (omega arith, numbers-below rs (b .1))
 
--- numbers over the first places of a list
-over-all : (old xs : List ℕ) (m : ℕ) → length xs ≡ m → m ≤ length old → take m (over old xs) ≡ xs
-unfolding over
-over-all old xs m e h = rw (← e) (go old xs (omega arith))
-  where
-    go : (old xs : List ℕ) → length xs ≤ length old → take (length xs) (over old xs) ≡ xs
-    go old [] h = refl
-    go [] (x ∷ xs) h = absurd (omega arith)
-    go (o ∷ old) (x ∷ xs) h = ap (λ (l : List ℕ). x ∷ l) (go old xs (omega arith))
+-- Rule 8: a tag and its word are no more than the tags of the directory, since the word is another one of them
+module _ (ns : List (List ℕ)) (some : 1 ≤ length ns) (small : length ns ≤ maxNames) where
+  abbrev words : List ℕ
+  words = wordsOf ns
 
--- one for each tag
-each-long : (f : ℕ → ℕ) (m : ℕ) → length (eachTag f m) ≡ m
-each-long f m = length-map (upTo m) (λ (tag : ℕ). f tag % 65536) ∙ length-upTo m
+  -- two tags
+  two-few : (k : ℕ) → 1 < getD words k 0 → 2 ≤ length ns
+  two-few k h = go (ltb k (length ns)) refl
+    where
+      long : length words ≡ length ns
+      long = each-long (wordCode ns) (length ns)
+
+      go : (b : Bool) → ltb k (length ns) ≡ b → 2 ≤ length ns
+      go true e =
+          let inside = ltb-true k (length ns) e in
+          let same : over words words ≡ words = over-all words words refl in
+          let other : getD words k 0 - 2 ≡ k → ⊥ = (rw same at (word-differs words ns (omega (arith, long)) (omega arith) k inside)) h in
+          let below : getD words k 0 - 2 < length ns = (rw same at (word-below words ns (omega (arith, long)) (omega arith) k inside)) h in
+          omega (arith, inside, other, below)
+      go false e = let none : getD words k 0 ≡ 0 = List·getD-eq-default words 0 (omega (arith, long, ltb-false k (length ns) e)) in absurd (omega arith)
+
+  backs-few : (k : ℕ) → length (readBackTags words k) ≤ length ns
+  backs-few k = go (ltb 1 (getD words k 0)) refl
+    where
+      go : (b : Bool) → ltb 1 (getD words k 0) ≡ b → length (k ∷ cond b ((getD words k 0 - 2) ∷ []) []) ≤ length ns
+      go true e = omega (arith, two-few k (ltb-true 1 (getD words k 0) e))
+      go false e = omega arith
 
 -- all groups that creation is given are kept, and their numbers are 0 to 15
 module _ (s : Setup) (e : creationCheck s ≡ 0) where
@@ -322,91 +333,81 @@ module _ (s : Setup) (e : creationCheck s ≡ 0) where
       let b = both (leb (length (s .groups) / 16) maxGroups) (every groupOk (recordsIn 2 (s .groups))) (both (eqb (length (s .groups)) (16 * (length (s .groups) / 16))) _ (groups-good s e) .1) in
       (leb-true (length (s .groups) / 16) maxGroups (b .0), b .1)
 
-  pub all-configured : freshWorker s .board .configured ≡ givenGroups (s .groups)
+  all-configured : freshWorker s .board .configured ≡ givenGroups (s .groups)
   unfolding freshBoard
   all-configured = take-all configuredRoom (givenGroups (s .groups)) (omega (arith, length-given (s .groups), good-groups .0))
-
-  -- so are all sort keys and words
-  setup-whole : WholeSetup s (freshWorker s)
-  unfolding freshBoard
-  setup-whole =
-      let ns = namesOf (s .names) (s .ends) in
-      let long : length ns ≡ length (s .ends) = length-names (s .names) (s .ends) in
-      let few : length (s .ends) ≤ length noNumbers = omega (arith, names-few s e, length-replicate {A = ℕ} 128 0) in
-      record {
-        rows = sound-fresh s e .few;
-        keys-all = over-all noNumbers (keysOf ns) (length (s .ends)) (each-long (keyOf ns) (length ns) ∙ long) few;
-        words-all = over-all noNumbers (wordsOf ns) (length (s .ends)) (each-long (wordCode ns) (length ns) ∙ long) few;
-        groups-all = all-configured;
-      }
 
   configured-below : Below maxGroups (numbersOf (freshWorker s .board .configured))
   unfolding givenGroups
   configured-below = rw all-configured (numbers-below (recordsIn 2 (s .groups)) (good-groups .1))
 
-  fresh-fits : (n : ℕ) → listRoom ≤ n → Fits tagRoom n (freshWorker s .board)
+  fresh-fits : Fits (length (s .ends)) (freshWorker s .board)
   unfolding freshBoard tagTaken
-  fresh-fits n more =
-      let words = freshWords (s .names) (s .ends) in
-      let tags = tableTaken false (s .settings) words (replicate tagRoom freshTag) in
-      let same : map isGraced tags ≡ map isGraced (replicate tagRoom freshTag) = each-kept isGraced (takenAt false (s .settings) words) (λ i x. refl) 0 (replicate tagRoom freshTag) in
-      let long : length tags ≡ tagRoom = sym (length-map tags isGraced) ∙ ap length same ∙ length-map (replicate tagRoom freshTag) isGraced ∙ length-replicate tagRoom freshTag in
+  fresh-fits =
+      let ns = namesOf (s .names) (s .ends) in
+      let count = length (s .ends) in
+      let few : length ns ≡ count = length-names (s .names) (s .ends) in
+      let rows = replicate count freshTag in
+      let tags = tableTaken false (s .settings) (wordsOf ns) rows in
+      let same : map isGraced tags ≡ map isGraced rows = each-kept isGraced (takenAt false (s .settings) (wordsOf ns)) (λ i x. refl) 0 rows in
+      let long : length tags ≡ count = sym (length-map tags isGraced) ∙ ap length same ∙ length-map rows isGraced ∙ length-replicate count freshTag in
       record {
         table-fits = record {
           graced = record {
-            once = λ k. ap (λ (b : Bool). cond b 1 0) (sym (sym (map-at isGraced tags k freshTag) ∙ ap (λ (l : List Bool). getD l k false) same ∙ fresh-grace tagRoom k));
+            once = λ k. ap (λ (b : Bool). cond b 1 0) (sym (sym (map-at isGraced tags k freshTag) ∙ ap (λ (l : List Bool). getD l k false) same ∙ fresh-grace count k));
             enough = omega (arith, long);
           };
           long = long;
-          numbered = numbered-taken (length (s .ends)) (s .settings) (settings-good s e) false words (replicate tagRoom freshTag);
+          numbered = numbered-taken count (s .settings) (settings-good s e) false (wordsOf ns) rows;
+          backs = λ k. omega (arith, few, backs-few ns (omega (arith, few, names-some s e)) (omega (arith, few, names-few s e)) k);
         };
         groups-fit = record { numbers = record { once = λ k. omega arith; below = tt }; enough = omega arith };
         named = configured-below;
         asked-few = omega arith;
         queue-few = omega arith;
-        rooms = record { tags-fit = omega arith; writes-fit = omega arith; queue-fits = omega arith; more = more; cells-fit = omega arith };
+        rooms = record { some = names-some s e; tags-fit = refl; queue-fits = omega arith };
       }
 
 -- ---- lists of calls
 
 -- What holds of each call on an engine that is sound and fits holds of each call of a list, from a fresh engine on.
-pub each-fit : (s : Setup) → creationCheck s ≡ 0 → (n : ℕ) → listRoom ≤ n → (Q : Moment → Type 0)
-    → ((c : Call) (W : Worker) → Sound (s .options) (namesOf (s .names) (s .ends)) W → Fits tagRoom n (W .board) → Q (moment c W))
+pub each-fit : (s : Setup) → creationCheck s ≡ 0 → (Q : Moment → Type 0)
+    → ((c : Call) (W : Worker) → Sound (s .options) (namesOf (s .names) (s .ends)) W → Fits (length (s .ends)) (W .board) → Q (moment c W))
     → (cs : List Call) → Each (atEach after moment cs (freshWorker s)) Q
 unfolding Each atEach
-each-fit s e n more Q q cs = go cs (freshWorker s) (sound-fresh s e) (fresh-fits s e n more)
+each-fit s e Q q cs = go cs (freshWorker s) (sound-fresh s e) (fresh-fits s e)
   where
     ns : List (List ℕ)
     ns = namesOf (s .names) (s .ends)
 
-    go : (cs : List Call) (W : Worker) → Sound (s .options) ns W → Fits tagRoom n (W .board) → Each (atEach after moment cs W) Q
+    go : (cs : List Call) (W : Worker) → Sound (s .options) ns W → Fits (length (s .ends)) (W .board) → Each (atEach after moment cs W) Q
     go [] W v f = tt
-    go (c ∷ cs) W v f = (q c W v f, go cs (after c W) (sound-after (s .options) ns c W v) (same-call (s .options) ns tagRoom n W v f c .fits))
+    go (c ∷ cs) W v f = (q c W v f, go cs (after c W) (sound-after (s .options) ns c W v) (same-call (s .options) ns (length (s .ends)) 0 W v f c .fits))
 
 -- Every list of calls is answered the same with more room.
 pub never-cut : NeverCut
 unfolding NeverCut atEach
-never-cut s e cs n more = let r = go cs (freshWorker s) (sound-fresh s e) (fresh-fits s e n more) in record { same = r .0; kept = r .1 }
+never-cut s e cs n = let r = go cs (freshWorker s) (sound-fresh s e) (fresh-fits s e) in record { same = r .0; kept = r .1 }
   where
     ns : List (List ℕ)
     ns = namesOf (s .names) (s .ends)
 
-    go : (cs : List Call) (W : Worker) → Sound (s .options) ns W → Fits tagRoom n (W .board)
+    go : (cs : List Call) (W : Worker) → Sound (s .options) ns W → Fits (length (s .ends)) (W .board)
         → (answers after answer cs (roomed n W) ≡ answers after answer cs W) × (states after cs (roomed n W) ≡ map (roomed n) (states after cs W))
     go [] W v f = (refl, refl)
     go (c ∷ cs) W v f =
-        let x = same-call (s .options) ns tagRoom n W v f c in
+        let x = same-call (s .options) ns (length (s .ends)) n W v f c in
         let r = go cs (after c W) (sound-after (s .options) ns c W v) (x .fits) in (
           rw (x .answer-same, x .after-same) (ap (λ (l : List Said). answer c W ∷ l) (r .0)),
           rw (x .after-same) (ap (λ (l : List Worker). roomed n (after c W) ∷ l) (r .1)),
         )
 
--- Creation keeps all that it is given.
+-- Creation keeps all groups that it is given.
 pub setups-whole : SetupsWhole
 unfolding SetupsWhole
-setups-whole s e = setup-whole s e
+setups-whole s e = all-configured s e
 
 -- The lists of every round are whole, and so are the lists that steps leave.
 pub steps-whole : StepsWhole
 unfolding StepsWhole
-steps-whole s e cs = each-fit s e listRoom (omega arith) WholeStep (λ c W v f. whole-call (s .options) (namesOf (s .names) (s .ends)) tagRoom listRoom W v f c) cs
+steps-whole s e cs = each-fit s e WholeStep (λ c W v f. whole-call (s .options) (namesOf (s .names) (s .ends)) (length (s .ends)) 0 W v f (names-few s e) c) cs

@@ -4,12 +4,13 @@ use mathlib.Core.Path.{_≡_}
 use mathlib.Core.List.{List, _∷_, _++_, map}
 use Prim.Native.Nat.{ℕ, _≤_, _/_}
 use lib.ListN.{length, drop}
-use Rattle.panel.specs.Panel.{tierIn}
-use Rattle.lent.specs.Lent.{records, wroteCells}
+use Rattle.names.specs.Directory.{maxNames}
+use Rattle.panel.specs.Panel.{tierIn, panelRoom}
+use Rattle.lent.specs.Lent.{cellBytes, overBytes, records}
 use Rattle.statistics.specs.Stats.{groupsOf}
 use Rattle.histories.specs.Events.{Each}
 use Rattle.histories.specs.Histories.{atEach}
-use Rattle.board.specs.Board.{factsOf, rowCells}
+use Rattle.shown.specs.Looks.{factsOf, rowCells}
 use Rattle.replies.specs.Worker.{Worker}
 use Rattle.capi.specs.Creation.{freshWorker}
 use Rattle.checks.specs.Creation.{Setup, creationCheck}
@@ -28,12 +29,17 @@ groupsIn W = groupsOf (factsOf (W .board))
 abbrev pub orderIn : Worker → List ℕ
 orderIn W = W .board .table .order
 
+-- how many tags the engine is for
+abbrev pub rowsIn : Worker → ℕ
+rowsIn W = length (W .board .table .tags)
+
 -- Rule 11: a count byte n, then n tag bytes, then n tier bytes
 abbrev pub panelIn : Worker → List ℕ
 panelIn W = length (orderIn W) ∷ (orderIn W ++ map (tierIn (W .board .table .tags)) (orderIn W))
 
--- Of a call on an engine. The group statistics: at most 16 groups, and where 16 places are lent all are told. The table: at most 120 tags, and where as many places are lent as
--- there are rows all are told. The panel list: at most 241 bytes, and where so many are lent all are written.
+-- Of a call on an engine. The group statistics: at most 16 groups, and where 16 places are lent all are told. The table: at most as many tags as the engine is for, which
+-- are no more than a directory can have names, and where a place is lent for each of these all are told. The panel list: at most the bytes of a list of as many tags as the
+-- engine is for, and where the bytes of the longest list are lent all are written.
 unfoldable pub WholeLook : Moment → Type 0
 WholeLook m = go (m .call)
   where
@@ -49,9 +55,9 @@ WholeLook m = go (m .call)
     go lookState = Unit {0}
     go lookStats = Unit {0}
     go lookCounts = Unit {0}
-    go (lookGroups out) = (length (groupsIn W) ≤ 16) × (16 ≤ length out / 40 → answer (lookGroups out) W ≡ all (length (groupsIn W)) (wroteCells out (groupCells W)))
-    go (lookTable out) = (length (orderIn W) ≤ 120) × (120 ≤ length out / 16 → answer (lookTable out) W ≡ all (length (orderIn W)) (wroteCells out (records (rowCells (W .board)) (orderIn W))))
-    go (lookPanel out) = (length (panelIn W) ≤ 241) × (241 ≤ length out → answer (lookPanel out) W ≡ all (length (panelIn W)) (panelIn W ++ drop (length (panelIn W)) out))
+    go (lookGroups out) = (length (groupsIn W) ≤ 16) × (16 ≤ length out / 40 → answer (lookGroups out) W ≡ all (length (groupsIn W)) (overBytes out (cellBytes (groupCells W))))
+    go (lookTable out) = (length (orderIn W) ≤ rowsIn W) × (rowsIn W ≤ maxNames) × (maxNames ≤ length out / 16 → answer (lookTable out) W ≡ all (length (orderIn W)) (overBytes out (cellBytes (records (rowCells (W .board)) (orderIn W)))))
+    go (lookPanel out) = (length (panelIn W) ≤ panelRoom (rowsIn W)) × (rowsIn W ≤ maxNames) × (panelRoom maxNames ≤ length out → answer (lookPanel out) W ≡ all (length (panelIn W)) (panelIn W ++ drop (length (panelIn W)) out))
     go (lookTag tag) = Unit {0}
 
 unfoldable pub LooksWhole : Type 0

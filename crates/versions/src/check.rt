@@ -1,35 +1,37 @@
 // The table after a version answer.
 ghost use mathlib.Core.Path.{_≡_};
-ghost use lib.ListN.{getD, set};
-ghost use Rattle.memory.specs.Halves.{halvesIn};
-ghost use Rattle.table.specs.Tag.{freshTag};
-ghost use Rattle.table.specs.Table.{tableIn};
+ghost use Rattle.board.specs.Layout.{IsBoard};
+ghost use Rattle.board.specs.Board.{Holds, tagAt, boardIn, withTag, withRecords};
 ghost use Rattle.versions.specs.Versions.{takenAt, tableTaken, takesSettings, versionTable};
 use super::tag::tag_taken;
 use super::version::Version;
 use super::version::is_changed;
-use memory::halves::half;
+use board::starts::tags_in;
+use board::tag::is_bit;
+use board::tag::put_tag;
+use board::tag::tag_of;
 use settings::setting::setting_at;
-use table::put_tag;
-use table::tag_of;
 
-fn take_at(t: &mut [u8], words: &[u8], settings: &[u8], k: usize, changed: bool)
-    ensures { λ _. ⌜ tableIn (now (t .exit)) ≡ set (tableIn (now (t .entry))) k (takenAt changed (now (settings .entry)) (halvesIn (now (words .entry))) k (getD (tableIn (now (t .entry))) k freshTag)) ⌝ }
+fn take_at(b: &mut [u8], settings: &[u8], k: usize, changed: bool)
+    requires { ⌜ IsBoard (now b) ⌝ }
+    ensures { λ _. ⌜ Holds (now (b .exit)) (withTag (boardIn (now (b .entry))) k (takenAt changed (now (settings .entry)) (boardIn (now (b .entry)) .table .words) k (tagAt (boardIn (now (b .entry)) .table) k))) ⌝ }
 {
-    let x = tag_of(t, k);
+    let x = tag_of(b, k);
     let s = setting_at(settings, k);
-    let bit = half(words, k) != 0;
+    let bit = is_bit(b, k);
     let y = tag_taken(x, s, bit, changed);
-    put_tag(t, k, y);
+    put_tag(b, k, y);
 }
 
-pub fn take_all(t: &mut [u8], words: &[u8], settings: &[u8], changed: bool)
-    ensures { λ _. ⌜ tableIn (now (t .exit)) ≡ tableTaken changed (now (settings .entry)) (halvesIn (now (words .entry))) (tableIn (now (t .entry))) ⌝ }
+// Every tag takes its setting.
+pub fn take_all(b: &mut [u8], settings: &[u8], changed: bool)
+    requires { ⌜ IsBoard (now b) ⌝ }
+    ensures { λ _. ⌜ Holds (now (b .exit)) (withRecords (boardIn (now (b .entry))) (tableTaken changed (now (settings .entry)) (boardIn (now (b .entry)) .table .words) (boardIn (now (b .entry)) .table .tags))) ⌝ }
 {
-    let n = t.len() / 256;
+    let n = tags_in(b);
     let mut k: usize = 0;
     while k < n {
-        take_at(t, words, settings, k, changed);
+        take_at(b, settings, k, changed);
         k += 1;
     }
 }
@@ -44,18 +46,12 @@ fn takes_settings(changed: bool, connecting: bool) -> bool
 }
 
 // A change or a connect clears missing marks and takes the new settings.
-pub fn check_version(
-    t: &mut [u8],
-    words: &[u8],
-    settings: &[u8],
-    old: Version,
-    new: Version,
-    connecting: bool,
-)
-    ensures { λ _. ⌜ tableIn (now (t .exit)) ≡ versionTable old new connecting (now (settings .entry)) (halvesIn (now (words .entry))) (tableIn (now (t .entry))) ⌝ }
+pub fn check_version(b: &mut [u8], settings: &[u8], old: Version, new: Version, connecting: bool)
+    requires { ⌜ IsBoard (now b) ⌝ }
+    ensures { λ _. ⌜ Holds (now (b .exit)) (withRecords (boardIn (now (b .entry))) (versionTable old new connecting (now (settings .entry)) (boardIn (now (b .entry)) .table .words) (boardIn (now (b .entry)) .table .tags))) ⌝ }
 {
     let changed = is_changed(old, new);
     if takes_settings(changed, connecting) {
-        take_all(t, words, settings, changed);
+        take_all(b, settings, changed);
     }
 }

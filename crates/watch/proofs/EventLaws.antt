@@ -6,13 +6,15 @@ use lib.ListN.{length, getD}
 use Rattle.lists.specs.Keep.{Below}
 use Rattle.names.specs.Directory.{maxNames}
 use Rattle.table.specs.Tag.{freshTag}
-use Rattle.board.specs.Board.{boardOf, boardIn}
-use Rattle.polls.specs.Polls.{changesIn}
-use Rattle.board.specs.Regions.{regionsIn}
+use Rattle.lent.specs.Lent.{cellBytes}
+use Rattle.lent.specs.Changes.{changeSize}
+use Rattle.board.specs.Layout.{table, partsIn}
+use Rattle.board.specs.Board.{boardFrom, boardIn}
+use Rattle.readings.specs.Changes.{changesIn}
 use Rattle.replies.specs.Worker.{Worker, tell}
 use Rattle.replies.specs.Reply.{values}
 use Rattle.replies.specs.declared.reply.Reply.{Reply}
-use Rattle.capi.specs.Memory.{memorySize, workerIn}
+use Rattle.capi.specs.Memory.{IsEngine, boardBytes, workerIn}
 use Rattle.capi.specs.Calls.{Stepped}
 use Rattle.changes.specs.Changes.{told, changeOf}
 use Rattle.changes.proofs.FitLaws.{Fit, table-fit}
@@ -20,12 +22,12 @@ use Rattle.changes.proofs.ToldLaws.{told-of}
 
 -- the entries of an engine in memory are such as the machine can hold
 worker-fit : (mem : List ℕ) (k : ℕ) → Fit (getD (workerIn mem .board .table .tags) k freshTag .published)
-unfolding workerIn boardIn boardOf regionsIn
-worker-fit mem k = table-fit _ k
+unfolding workerIn boardIn boardFrom
+worker-fit mem k = table-fit (partsIn (boardBytes mem) table) k
 
 pub event-told : (old new : List ℕ) (r : Reply) (out out' : List ℕ) (W : Worker) (ks : List ℕ)
-    → Stepped old new r out out' (tell W (values (length ks)) (changesIn (W .board) ks)) → length old ≡ memorySize
-    → Below 65536 ks → length ks ≤ maxNames → 56 * length ks ≤ length out
+    → Stepped old new r out out' (tell W (values (length ks)) (cellBytes (changesIn (W .board) ks))) → IsEngine old
+    → Below 65536 ks → length ks ≤ maxNames → changeSize * length ks ≤ length out
     → told out' (r .count) ≡ map (changeOf (W .board .table .tags)) ks
 event-told old new r out out' W ks S engine below few room =
     let fit : (k : ℕ) → Fit (getD (W .board .table .tags) k freshTag .published) =

@@ -1,6 +1,7 @@
 // What is printed.
 use changes::Change;
 use libc::STDOUT_FILENO;
+use names::directory::MAX_NAMES;
 use values::entry::Quality;
 use values::error::Error;
 use values::value::Value;
@@ -73,10 +74,10 @@ fn change(name: &[u8], c: Change) {
 }
 
 // The first n of a run.
-pub fn changes<'a>(names: &'a [u8], ends: &'a [u32], run: [Change; 120], n: usize) {
+pub fn changes<'a>(names: &'a [u8], ends: &'a [u32], run: [Change; MAX_NAMES], n: usize) {
     let mut i: usize = 0;
     while i < n {
-        if 120 <= i {
+        if MAX_NAMES <= i {
             return;
         }
         let c = run[i];

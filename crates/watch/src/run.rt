@@ -10,17 +10,20 @@ use capi::calls::wz_set_tier;
 use capi::calls::wz_step;
 use capi::creation::wz_create;
 use changes::Change;
+use lent::changes::CHANGE;
+use names::directory::MAX_NAMES;
 use replies::reply::Reply;
+use rounds::tick::Options;
 use worker::checks::Answer;
 
-// The bytes of an engine.
-const MEMORY: usize = 38400;
+// The bytes of an engine of four names.
+const MEMORY: usize = 4206;
 
 // Four cells for each of four tags.
 const SETTINGS: usize = 128;
 
-// Room for 120 changes of seven cells.
-const LIST: usize = 6720;
+// Room for a change of every name that a directory can have.
+const LIST: usize = MAX_NAMES * CHANGE;
 
 // The wall time is the clock's, in milliseconds.
 fn wall(clock: f64) -> i64 {
@@ -32,10 +35,10 @@ fn wall(clock: f64) -> i64 {
 fn event<'a>(
     names: &'a [u8],
     ends: &'a [u32],
-    run: [Change; 120],
+    run: [Change; MAX_NAMES],
     out: &[u8],
     r: Reply,
-) -> [Change; 120] {
+) -> [Change; MAX_NAMES] {
     if r.kind != Reply::VALUES {
         return run;
     }
@@ -86,7 +89,7 @@ fn step(mem: &mut [u8], h: Host, kind: u64, list: &mut [u8], out: &mut [u8]) -> 
 fn steps<'a>(names: &'a [u8], ends: &'a [u32], mem: &mut [u8]) {
     let mut out = [0u8; LIST];
     let mut list = [0u8; RESULTS];
-    let mut run = [Change::none(); 120];
+    let mut run = [Change::none(); MAX_NAMES];
     let mut h = Host {
         clock: 0.0,
         rounds: 0,
@@ -118,7 +121,12 @@ fn begin<'a>(names: &'a [u8], ends: &'a [u32]) {
     let mut mem = [0u8; MEMORY];
     let settings = [0u8; SETTINGS];
     let groups = [0u8; 0];
-    let code = wz_create(&mut mem, names, ends, 1.0, 3.0, 0.0, &settings, &groups);
+    let options = Options {
+        cycle: 1.0,
+        period: 3.0,
+        grace: 0.0,
+    };
+    let code = wz_create(&mut mem, names, ends, options, &settings, &groups);
     if code != 0 {
         refused(code as u64);
         return;

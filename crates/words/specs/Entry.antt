@@ -41,8 +41,8 @@ abbrev pub heldWordsOf : Held → EntryWords
 heldWordsOf None = record { held = 0; kind = 0; word = 0; t = 0; error = 0; message = 0 }
 heldWordsOf (Is e) = entryWordsOf e
 
--- those words as a list
+-- The cells that a host is given of an entry, or of none: its words, and two of 0.
 abbrev pub entryCells : Held → List ℕ
 entryCells h =
     let w = heldWordsOf h in
-    w .held ∷ w .kind ∷ w .word ∷ w .t ∷ w .error ∷ w .message ∷ []
+    w .held ∷ w .kind ∷ w .word ∷ w .t ∷ w .error ∷ w .message ∷ 0 ∷ 0 ∷ []

@@ -5,9 +5,9 @@ use mathlib.Core.List.{List, [], _∷_}
 use Prim.Native.Nat.{ℕ}
 use lib.Dec.{eqb, eqb·suc-zero}
 use lib.ListN.{length}
-use Rattle.lent.specs.Lent.{wroteAll, records}
+use Rattle.lent.specs.Lent.{cellBytes, wroteAll, records}
 use Rattle.board.specs.Board.{Board, boardIn}
-use Rattle.polls.specs.Polls.{changesIn}
+use Rattle.readings.specs.Changes.{changesIn}
 use Rattle.heads.specs.declared.progress.Phase.{Phase}
 use Rattle.engine.specs.declared.Engine.{Engine}
 use Rattle.replies.specs.declared.reply.Reply.{Reply}
@@ -32,8 +32,8 @@ asked-done e B p r s board' out said kept = record {
 }
 
 -- something that carries a list
-pub told-done : (e : Engine) (B : Board) (p : Phase) (r : Reply) (cells : List ℕ) (s : Said) (board' out out' : List ℕ) → s ≡ saidIn e p r → boardIn board' ≡ B → out' ≡ wroteAll out cells → eqb (r .kind) 0 ≡ false → Done (tell (phased (worker e B) p) r cells) s board' out out'
-told-done e B p r cells s board' out out' said kept wrote told = record {
+pub told-done : (e : Engine) (B : Board) (p : Phase) (r : Reply) (bytes : List ℕ) (s : Said) (board' out out' : List ℕ) → s ≡ saidIn e p r → boardIn board' ≡ B → out' ≡ wroteAll out bytes → eqb (r .kind) 0 ≡ false → Done (tell (phased (worker e B) p) r bytes) s board' out out'
+told-done e B p r bytes s board' out out' said kept wrote told = record {
   head-is = ap (λ (x : Said). x .head) said;
   board-is = kept;
   reply-is = ap (λ (x : Said). x .reply) said;
@@ -42,8 +42,8 @@ told-done e B p r cells s board' out out' said kept wrote told = record {
 }
 
 -- no change writes nothing
-pub no-changes : (B : Board) (changes out out' : List ℕ) → isEmpty changes ≡ true → out' ≡ wroteAll out (changesIn B changes) → out' ≡ out
-unfolding records
+pub no-changes : (B : Board) (changes out out' : List ℕ) → isEmpty changes ≡ true → out' ≡ wroteAll out (cellBytes (changesIn B changes)) → out' ≡ out
+unfolding records cellBytes
 no-changes B [] out out' h wrote = wrote ∙ wrote-nothing out
 no-changes B (k ∷ ks) out out' h wrote = absurd (true≢false (sym h))
 

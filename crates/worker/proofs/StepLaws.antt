@@ -1,20 +1,18 @@
--- Laws of a step: how long the board's table is, and that what an accepted step tells is no refusal.
+-- Laws of a step: what an accepted step tells is no refusal.
 use mathlib.Core.Bool.{Bool, true, false, cond}
-use mathlib.Core.List.{List, []}
+use mathlib.Core.List.{[]}
 use mathlib.Core.Path.{_≡_, refl, ap, sym, _∙_}
-use Prim.Native.Nat.{ℕ, _/_}
-use native.Mathlib.Omega.{arith}
+use Prim.Native.Nat.{ℕ}
 use lib.Dec.{eqb}
 use lib.Ieee.{binary64, le, round as rounded}
 use lib.ListN.{length, take}
 use Rattle.values.specs.declared.value.Value.the-variants.{Null}
-use Rattle.table.proofs.RowLaws.{length-table}
 use Rattle.rounds.specs.Round.{Round}
 use Rattle.versions.specs.Versions.{isReloaded}
-use Rattle.writes.specs.Queue.{popped}
-use Rattle.writes.specs.ReadBack.{readBackTags, readBackFirst}
-use Rattle.writes.specs.declared.queue.Popped.{Popped}
-use Rattle.writes.specs.declared.queue.Popped.the-variants.{Nothing, Is}
+use Rattle.queue.specs.Queue.{popped}
+use Rattle.writes.specs.ReadBack.{readBackTags, readBackFirst, keptBack}
+use Rattle.queue.specs.declared.Popped.{Popped}
+use Rattle.queue.specs.declared.Popped.the-variants.{Nothing, Is}
 use Rattle.heads.specs.Link.{isState, withAttempt}
 use Rattle.heads.specs.Stats.{readStats, tailStats, reconnected, reloaded}
 use Rattle.heads.specs.declared.link.State.the-variants.{Connecting, Connected, Disconnected}
@@ -22,21 +20,15 @@ use Rattle.heads.specs.declared.progress.After.{After}
 use Rattle.heads.specs.declared.progress.After.the-variants.{Tail, Idle, End}
 use Rattle.heads.specs.declared.progress.Phase.{Phase}
 use Rattle.heads.specs.declared.progress.Phase.the-variants.{Begin, Connect, OpenVersion, Version, Read, Describe, Write, ReadBack, Wait, Backoff, OpenFailedTold, OpenMetaTold, ConnectedTold, MetaTold, ValuesTold, InfoTold, RefusedTold, LostTold, OutcomeTold, BackTold, FailedTold, StaleTold, DisconnectedTold, ConnectingTold, Stopped}
-use Rattle.board.specs.Board.{boardIn, boardOf, withAsked}
-use Rattle.polls.specs.Polls.{appliedTo, staledIn, changesIn}
-use Rattle.talks.specs.Talks.{keptBack, describing}
-use Rattle.board.specs.Regions.{boardSize, regionsIn, part}
-use Rattle.board.proofs.Laws.{part-long}
+use Rattle.board.specs.Board.{withAsked}
+use Rattle.lent.specs.Lent.{cellBytes, tagBytes}
+use Rattle.readings.specs.Changes.{appliedTo, staledIn, changesIn}
+use Rattle.descriptions.specs.Descriptions.{describing}
 use Rattle.replies.specs.Reply as reply
 use Rattle.replies.specs.Worker.{Worker, At, Told, tell, asks, withBoard, phased, linked, stated, tallied, goesOn}
 use Rattle.replies.specs.Losing.{isEmpty, failing, ended, backingOff, disconnected, staling, down, top}
 use Rattle.cycles.specs.Polling.{elapsed, remaining, polls, waiting, idle, tail, resume, writingOf, writing, checking, reading, roundAt, withWorked, worked, polled, poll, lastly, finished}
 use Rattle.worker.specs.Answers.{Answer, stepCheck, connected, reconnecting, opened, numberOf, versioned, openVersion, roundVersion, results, descriptions, written, readBack, backApplied, waited, backedOff, connectAnswered, taken, handled, clocked, stepped, step}
-
--- the table's part is 30720 bytes, and a record takes 256
-pub tags-long : (bs : List ℕ) → length bs ≡ boardSize → length (boardIn bs .table .tags) ≡ 30720 / 256
-unfolding boardIn boardOf regionsIn
-tags-long bs h = length-table (part 7424 30720 bs) ∙ ap (λ (n : ℕ). n / 256) (part-long 7424 30720 bs h (omega arith))
 
 -- what is told is no refusal
 pub record Plain (T : Told) : Type 0 where
@@ -53,7 +45,7 @@ worked-plain : (T : Told) (R : Round) → Plain T → Plain (worked T R)
 worked-plain T R h = told _ (h .accepted)
 
 lastly-plain : (T : Told) (at : At) → Plain T → Plain (lastly T at)
-lastly-plain T at h = both (goesOn T) (record { left = waiting (T .left) at .left; reply = waiting (T .left) at .reply; cells = []; round = T .round }) (T) (told _ refl) h
+lastly-plain T at h = both (goesOn T) (record { left = waiting (T .left) at .left; reply = waiting (T .left) at .reply; bytes = []; round = T .round }) (T) (told _ refl) h
 
 pub disconnected-plain : (W : Worker) → Plain (disconnected W)
 unfolding disconnected
@@ -64,7 +56,7 @@ unfolding staling
 staling-plain W =
     let C = staledIn (W .board) in
     let next = withBoard W (C .board) in
-    both (isEmpty (C .changes)) (disconnected next) (tell (phased next StaleTold) (reply.values (length (C .changes))) (changesIn (C .board) (C .changes))) (disconnected-plain next) (told _ refl)
+    both (isEmpty (C .changes)) (disconnected next) (tell (phased next StaleTold) (reply.values (length (C .changes))) (cellBytes (changesIn (C .board) (C .changes)))) (disconnected-plain next) (told _ refl)
 
 pub down-plain : (W : Worker) → Plain (down W)
 unfolding down
@@ -109,13 +101,13 @@ unfolding reading
 reading-plain W at =
     let B = describing (W .board) in
     let next = tallied (withBoard W B) (readStats (W .head .stats) (length (W .board .asked))) in
-    both (isEmpty (B .asked)) (checking next at) (tell (phased next Describe) (reply.describe (length (B .asked))) (B .asked)) (checking-plain next at) (told _ refl)
+    both (isEmpty (B .asked)) (checking next at) (tell (phased next Describe) (reply.describe (length (B .asked))) (tagBytes (B .asked))) (checking-plain next at) (told _ refl)
 
 polled-plain : (W : Worker) (at : At) (R : Round) → Plain (polled W at R)
 unfolding polled
 polled-plain W at R =
     let next = withWorked W at R in
-    let asked = tell (phased next Read) (reply.read (length (R .list))) (R .list) in
+    let asked = tell (phased next Read) (reply.read (length (R .list))) (tagBytes (R .list)) in
     worked-plain (cond (isEmpty (R .list)) (reading next at) asked) R (both (isEmpty (R .list)) (reading next at) asked (reading-plain next at) (told _ refl))
 
 poll-plain : (W : Worker) (at : At) → Plain (poll W at)
@@ -159,7 +151,7 @@ unfolding results
 results-plain W at a =
     let C = appliedTo (W .board) (a .list) (W .head .progress .start) (at .wall) true in
     let next = withBoard W (C .board) in
-    let sent = tell (phased next ValuesTold) (reply.values (length (C .changes))) (changesIn (C .board) (C .changes)) in
+    let sent = tell (phased next ValuesTold) (reply.values (length (C .changes))) (cellBytes (changesIn (C .board) (C .changes))) in
     both (eqb (a .kind) 6) (down W) (cond (isEmpty (C .changes)) (reading next at) sent) (down-plain W)
     (both (isEmpty (C .changes)) (reading next at) sent (reading-plain next at) (told _ refl))
 
@@ -175,7 +167,7 @@ written-plain W a =
     let asked = take (B .askedRoom) (readBackTags (B .table .words) k) in
     let refused = asks W RefusedTold (reply.wasRefused k (a .number) (a .message)) in
     let lost = asks W LostTold (reply.wasLost k) in
-    both (eqb (a .kind) 7) (tell (phased (withBoard W (withAsked B asked)) ReadBack) (reply.readBack (length asked)) asked) (cond (eqb (a .kind) 8) refused lost) (told _ refl)
+    both (eqb (a .kind) 7) (tell (phased (withBoard W (withAsked B asked)) ReadBack) (reply.readBack (length asked)) (tagBytes asked)) (cond (eqb (a .kind) 8) refused lost) (told _ refl)
     (both (eqb (a .kind) 8) refused lost (told _ refl) (told _ refl))
 
 back-plain : (W : Worker) (a : Answer) → Plain (readBack W a)
@@ -189,7 +181,7 @@ unfolding backApplied
 applied-plain W at =
     let C = appliedTo (W .board) (W .board .back) (at .clock) (at .wall) false in
     let next = withBoard W (C .board) in
-    both (isEmpty (C .changes)) (writing next at (W .head .progress .after)) (tell (phased next BackTold) (reply.values (length (C .changes))) (changesIn (C .board) (C .changes))) (writing-plain next at (W .head .progress .after)) (told _ refl)
+    both (isEmpty (C .changes)) (writing next at (W .head .progress .after)) (tell (phased next BackTold) (reply.values (length (C .changes))) (cellBytes (changesIn (C .board) (C .changes)))) (writing-plain next at (W .head .progress .after)) (told _ refl)
 
 waited-plain : (W : Worker) (at : At) → Plain (waited W at)
 unfolding waited

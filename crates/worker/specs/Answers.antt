@@ -6,15 +6,18 @@ use Prim.Native.Nat.{ℕ, _/_}
 use lib.Dec.{eqb, ltb}
 use lib.Ieee.{lt}
 use lib.ListN.{length, take}
+use Rattle.names.specs.Directory.{maxNames}
 use Rattle.ieee.specs.Times.{clockOk}
 use Rattle.values.specs.declared.value.Value.the-variants.{Null}
 use Rattle.results.specs.Results.{resultsOk}
 use Rattle.settings.specs.Settings.{settingsOk}
+use Rattle.lent.specs.Lent.{cellBytes, tagBytes}
+use Rattle.lent.specs.Changes.{changeSize}
 use Rattle.versions.specs.Versions.{isReloaded, versionTable}
 use Rattle.versions.specs.declared.version.Version.{Version as Number}
 use Rattle.versions.specs.declared.version.Version.the-variants.{Null as Unknown, Is as Known}
 use Rattle.descriptions.specs.Descriptions.{learnt, learntNone}
-use Rattle.writes.specs.ReadBack.{readBackTags, readBackFirst}
+use Rattle.writes.specs.ReadBack.{readBackTags, readBackFirst, keptBack}
 use Rattle.heads.specs.Link.{isState, withAttempt, withVersion}
 use Rattle.heads.specs.Stats.{reconnected, reloaded}
 use Rattle.heads.specs.declared.link.State.the-variants.{Connecting, Connected}
@@ -23,8 +26,7 @@ use Rattle.heads.specs.declared.progress.Phase.{Phase}
 use Rattle.heads.specs.declared.progress.Phase.the-variants.{Begin, Connect, OpenVersion, Version, Read, Describe, Write, ReadBack, Wait, Backoff, OpenFailedTold, OpenMetaTold, ConnectedTold, MetaTold, ValuesTold, InfoTold, RefusedTold, LostTold, OutcomeTold, BackTold, FailedTold, StaleTold, DisconnectedTold, ConnectingTold, Stopped}
 use Rattle.engine.specs.Engine.{withClock}
 use Rattle.board.specs.Board.{withRecords, withAsked}
-use Rattle.polls.specs.Polls.{appliedTo, changesIn}
-use Rattle.talks.specs.Talks.{keptBack}
+use Rattle.readings.specs.Changes.{appliedTo, changesIn}
 use Rattle.replies.specs.declared.reply.Said.{Said}
 use Rattle.replies.specs.Reply as reply
 use Rattle.replies.specs.Worker.{Worker, At, Told, Done, tell, asks, worker, withBoard, phased, linked, stated, tallied}
@@ -104,10 +106,10 @@ contents W a =
     cond (either (a .kind) 3 4) (cond (settingsOk (W .head .count) (a .list)) 0 14)
     (cond (eqb (a .kind) 5) (cond (resultsOk (length (W .board .asked)) (a .list)) 0 42) 0)
 
--- Checks of a step, in document 01's order: 43, 21, 22, 41, then 14 or 42; 0 where it is accepted. A change is seven cells.
+-- Checks of a step, in document 01's order: 43, 21, 22, 41, then 14 or 42; 0 where it is accepted. The lent list has room for a change of every name that a directory can have.
 unfoldable pub stepCheck : Worker → At → Answer → ℕ → ℕ
 stepCheck W at a out =
-    cond (ltb (out / 56) (length (W .board .table .tags))) 43
+    cond (ltb (out / changeSize) maxNames) 43
     (cond (not (clockOk (at .clock))) 21
     (cond (lt (at .clock) (W .head .clock)) 22
     (cond (not (answers (awaited (W .head .progress .phase)) a)) 41
@@ -159,7 +161,7 @@ results W at a =
     let next = withBoard W (C .board) in
     cond (eqb (a .kind) 6) (down W)
     (cond (isEmpty (C .changes)) (reading next at)
-    (tell (phased next ValuesTold) (reply.values (length (C .changes))) (changesIn (C .board) (C .changes))))
+    (tell (phased next ValuesTold) (reply.values (length (C .changes))) (cellBytes (changesIn (C .board) (C .changes)))))
 
 -- Rule 8: descriptions; every tag asked is told
 unfoldable pub descriptions : Worker → Answer → Told
@@ -167,7 +169,7 @@ descriptions W a =
     let B = W .board in
     let tags = B .table .tags in
     let known = cond (eqb (a .kind) 9) (learnt (a .list) (B .asked) tags) (learntNone (B .asked) tags) in
-    tell (phased (withBoard W (withRecords B known)) InfoTold) (reply.info (length (B .asked))) (B .asked)
+    tell (phased (withBoard W (withRecords B known)) InfoTold) (reply.info (length (B .asked))) (tagBytes (B .asked))
 
 -- Rule 8: a write that went through is followed by reading the tag and its word; one refused by the driver tells its kind; one lost ends the connection
 unfoldable pub written : Worker → Answer → Told
@@ -175,7 +177,7 @@ written W a =
     let k = W .head .progress .tag in
     let B = W .board in
     let asked = take (B .askedRoom) (readBackTags (B .table .words) k) in
-    cond (eqb (a .kind) 7) (tell (phased (withBoard W (withAsked B asked)) ReadBack) (reply.readBack (length asked)) asked)
+    cond (eqb (a .kind) 7) (tell (phased (withBoard W (withAsked B asked)) ReadBack) (reply.readBack (length asked)) (tagBytes asked))
     (cond (eqb (a .kind) 8) (asks W RefusedTold (reply.wasRefused k (a .number) (a .message)))
     (asks W LostTold (reply.wasLost k)))
 
@@ -192,7 +194,7 @@ backApplied W at =
     let C = appliedTo (W .board) (W .board .back) (at .clock) (at .wall) false in
     let next = withBoard W (C .board) in
     cond (isEmpty (C .changes)) (writing next at (W .head .progress .after))
-    (tell (phased next BackTold) (reply.values (length (C .changes))) (changesIn (C .board) (C .changes)))
+    (tell (phased next BackTold) (reply.values (length (C .changes))) (cellBytes (changesIn (C .board) (C .changes))))
 
 -- Rule 9: the wait between rounds is over, or was cut short
 unfoldable pub waited : Worker → At → Told

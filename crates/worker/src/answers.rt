@@ -1,18 +1,20 @@
 // What each answer of the host comes to.
+ghost use mathlib.Core.Bool.{true};
 ghost use mathlib.Core.List.{List};
 ghost use mathlib.Core.Path.{_≡_};
 ghost use Prim.Native.Nat.{ℕ};
-ghost use lib.ListN.{length};
 ghost use Rattle.board.specs.Board.{Board, boardIn};
-ghost use Rattle.board.specs.Regions.{boardSize};
+ghost use Rattle.board.specs.Layout.{IsBoard};
+ghost use Rattle.readings.specs.Changes.{appliedTo, Changing};
 ghost use Rattle.replies.specs.Worker.{at, worker, Done, Quietly};
 ghost use Rattle.worker.specs.Answers.{answer, connected, reconnecting, opened, numberOf, openVersion, roundVersion, results, descriptions, written, readBack, backApplied, waited, backedOff};
 use super::checks::Answer;
-use board::queue::queued;
-use board::request::put_asked;
+use board::waiting::queued;
 use cycles::polling::polls;
 use cycles::polling::reading;
 use cycles::polling::writing;
+use descriptions::learn;
+use descriptions::learn_none;
 use engine::Engine;
 use engine::with_link;
 use engine::with_stats;
@@ -25,8 +27,8 @@ use heads::progress::After;
 use heads::progress::Phase;
 use heads::stats::reconnected;
 use heads::stats::reloaded;
-use polls::entries::apply_back;
-use polls::entries::apply_polled;
+use readings::kept::apply_back;
+use readings::listed::apply;
 use replies::losing::down;
 use replies::losing::ended;
 use replies::losing::failing;
@@ -34,15 +36,14 @@ use replies::losing::phased;
 use replies::losing::top;
 use replies::reply::Reply;
 use replies::reply::Said;
-use talks::ask_read_back;
-use talks::check_version;
-use talks::keep_back;
-use talks::learn;
-use talks::learn_none;
 use values::value::Value;
+use versions::check::check_version;
 use versions::version::Version;
 use versions::version::is_reloaded;
+use writes::readback::ask_read_back;
+use writes::readback::keep_back;
 use writes::readback::read_back_value;
+use writes::request::put_asked;
 
 // Connected: attempts are counted afresh, and the status is told if it changed.
 pub fn connected(e: Engine) -> Said
@@ -62,7 +63,7 @@ pub fn connected(e: Engine) -> Said
 
 // A reconnect attempt.
 fn reconnecting(board: &mut [u8], out: &mut [u8], e: Engine) -> Said
-    requires { ⌜ length (now board) ≡ boardSize ⌝ }
+    requires { ⌜ IsBoard (now board) ⌝ }
     ensures { λ s. ⌜ Done (reconnecting (worker e (boardIn (now (board .entry))))) s (now (board .exit)) (now (out .entry)) (now (out .exit)) ⌝ }
 {
     let stats = reconnected(e.stats);
@@ -79,7 +80,7 @@ fn reconnecting(board: &mut [u8], out: &mut [u8], e: Engine) -> Said
 
 // Opened: writes left over from before the connect fail first.
 pub fn opened(board: &mut [u8], out: &mut [u8], e: Engine) -> Said
-    requires { ⌜ length (now board) ≡ boardSize ⌝ }
+    requires { ⌜ IsBoard (now board) ⌝ }
     ensures { λ s. ⌜ Done (opened (worker e (boardIn (now (board .entry))))) s (now (board .exit)) (now (out .entry)) (now (out .exit)) ⌝ }
 {
     if queued(board) == 0 {
@@ -100,7 +101,7 @@ fn number_of(a: Answer) -> Version
 
 // The version while connecting.
 pub fn open_version(board: &mut [u8], e: Engine, a: Answer, list: &[u8]) -> Said
-    requires { ⌜ length (now board) ≡ boardSize ⌝ }
+    requires { ⌜ IsBoard (now board) ⌝ }
     ensures { λ s. ⌜ ((out : List ℕ) → Done (openVersion (worker e (boardIn (now (board .entry)))) (answer a (now (list .entry)))) s (now (board .exit)) out out) ⌝ }
 {
     let old = e.link;
@@ -128,7 +129,7 @@ pub fn round_version(
     clock: f64,
     wall: i64,
 ) -> Said
-    requires { ⌜ length (now board) ≡ boardSize ⌝ }
+    requires { ⌜ IsBoard (now board) ⌝ }
     ensures { λ s. ⌜ Done (roundVersion (worker e (boardIn (now (board .entry)))) (at clock wall) (answer a (now (list .entry)))) s (now (board .exit)) (now (out .entry)) (now (out .exit)) ⌝ }
 {
     let old = e.link;
@@ -146,6 +147,15 @@ pub fn round_version(
     writing(board, out, next, clock, wall, After::Tail)
 }
 
+// Rule 7: the results of a round count from its start, however late they come.
+fn apply_polled(board: &mut [u8], out: &mut [u8], results: &[u8], e: Engine, t: i64) -> usize
+    requires { ⌜ IsBoard (now board) ⌝ }
+    ensures { λ r. ⌜ Changing (appliedTo (boardIn (now (board .entry))) (now (results .entry)) (e .progress .start) t true) r (now (board .exit)) (now (out .entry)) (now (out .exit)) ⌝ }
+{
+    let round = e.progress;
+    apply(board, out, results, round.start, t, true)
+}
+
 // The results of a round.
 pub fn results(
     board: &mut [u8],
@@ -156,7 +166,7 @@ pub fn results(
     clock: f64,
     wall: i64,
 ) -> Said
-    requires { ⌜ length (now board) ≡ boardSize ⌝ }
+    requires { ⌜ IsBoard (now board) ⌝ }
     ensures { λ s. ⌜ Done (results (worker e (boardIn (now (board .entry)))) (at clock wall) (answer a (now (list .entry)))) s (now (board .exit)) (now (out .entry)) (now (out .exit)) ⌝ }
 {
     if a.kind == Answer::LOST {
@@ -172,7 +182,7 @@ pub fn results(
 
 // Descriptions; every tag asked is told.
 pub fn descriptions(board: &mut [u8], out: &mut [u8], e: Engine, a: Answer, list: &[u8]) -> Said
-    requires { ⌜ length (now board) ≡ boardSize ⌝ }
+    requires { ⌜ IsBoard (now board) ⌝ }
     ensures { λ s. ⌜ Done (descriptions (worker e (boardIn (now (board .entry)))) (answer a (now (list .entry)))) s (now (board .exit)) (now (out .entry)) (now (out .exit)) ⌝ }
 {
     if a.kind == Answer::DESCRIPTIONS {
@@ -187,7 +197,7 @@ pub fn descriptions(board: &mut [u8], out: &mut [u8], e: Engine, a: Answer, list
 
 // A write was answered.
 pub fn written(board: &mut [u8], out: &mut [u8], e: Engine, a: Answer, list: &[u8]) -> Said
-    requires { ⌜ length (now board) ≡ boardSize ⌝ }
+    requires { ⌜ IsBoard (now board) ⌝ }
     ensures { λ s. ⌜ Done (written (worker e (boardIn (now (board .entry)))) (answer a (now (list .entry)))) s (now (board .exit)) (now (out .entry)) (now (out .exit)) ⌝ }
 {
     let p = e.progress;
@@ -207,7 +217,7 @@ pub fn written(board: &mut [u8], out: &mut [u8], e: Engine, a: Answer, list: &[u
 
 // A read-back was answered: the outcome is told, and the results are kept until it has been taken.
 pub fn read_back(board: &mut [u8], e: Engine, a: Answer, list: &[u8]) -> Said
-    requires { ⌜ length (now board) ≡ boardSize ⌝ }
+    requires { ⌜ IsBoard (now board) ⌝ }
     ensures { λ s. ⌜ ((out : List ℕ) → Done (readBack (worker e (boardIn (now (board .entry)))) (answer a (now (list .entry)))) s (now (board .exit)) out out) ⌝ }
 {
     let p = e.progress;
@@ -223,7 +233,7 @@ pub fn read_back(board: &mut [u8], e: Engine, a: Answer, list: &[u8]) -> Said
 
 // The outcome was taken: the read-back is applied.
 pub fn back_applied(board: &mut [u8], out: &mut [u8], e: Engine, clock: f64, wall: i64) -> Said
-    requires { ⌜ length (now board) ≡ boardSize ⌝ }
+    requires { ⌜ IsBoard (now board) ⌝ }
     ensures { λ s. ⌜ Done (backApplied (worker e (boardIn (now (board .entry)))) (at clock wall)) s (now (board .exit)) (now (out .entry)) (now (out .exit)) ⌝ }
 {
     let n = apply_back(board, out, clock, wall);
@@ -238,7 +248,7 @@ pub fn back_applied(board: &mut [u8], out: &mut [u8], e: Engine, clock: f64, wal
 
 // The wait between rounds is over, or was cut short.
 pub fn waited(board: &mut [u8], out: &mut [u8], e: Engine, clock: f64, wall: i64) -> Said
-    requires { ⌜ length (now board) ≡ boardSize ⌝ }
+    requires { ⌜ IsBoard (now board) ⌝ }
     ensures { λ s. ⌜ Done (waited (worker e (boardIn (now (board .entry)))) (at clock wall)) s (now (board .exit)) (now (out .entry)) (now (out .exit)) ⌝ }
 {
     let link = e.link;
@@ -250,7 +260,7 @@ pub fn waited(board: &mut [u8], out: &mut [u8], e: Engine, clock: f64, wall: i64
 
 // A backoff wait ends at its first answer.
 pub fn backed_off(board: &mut [u8], out: &mut [u8], e: Engine) -> Said
-    requires { ⌜ length (now board) ≡ boardSize ⌝ }
+    requires { ⌜ IsBoard (now board) ⌝ }
     ensures { λ s. ⌜ Done (backedOff (worker e (boardIn (now (board .entry))))) s (now (board .exit)) (now (out .entry)) (now (out .exit)) ⌝ }
 {
     let link = e.link;

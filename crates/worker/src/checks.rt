@@ -2,14 +2,15 @@
 ghost use mathlib.Core.List.{List};
 ghost use mathlib.Core.Path.{_≡_};
 ghost use Prim.Native.Nat.{ℕ};
-ghost use lib.ListN.{length};
 ghost use Rattle.board.specs.Board.{boardIn};
-ghost use Rattle.board.specs.Regions.{boardSize};
+ghost use Rattle.board.specs.Layout.{IsBoard};
 ghost use Rattle.replies.specs.Worker.{at, worker};
 ghost use Rattle.worker.specs.Answers.{answer, awaited, isError, either, answersWrite, answers, contents, stepCheck};
-use board::request::asked_count;
+use board::tag_lists::asked_count;
 use engine::Engine;
 use heads::progress::Phase;
+use lent::changes::CHANGE;
+use names::directory::MAX_NAMES;
 
 // An answer of the host, but for its list: the kind, the number of a version or of an error, and the number of a message.
 pub struct Answer {
@@ -114,7 +115,7 @@ fn answers(w: u64, a: Answer) -> bool
 
 // Check 14 of a version's settings, and check 42 of the results that are covered.
 fn contents(board: &[u8], e: Engine, a: Answer, list: &[u8]) -> u64
-    requires { ⌜ length (now board) ≡ boardSize ⌝ }
+    requires { ⌜ IsBoard (now board) ⌝ }
     ensures { λ r. ⌜ r ≡ contents (worker e (boardIn (now (board .entry)))) (answer a (now (list .entry))) ⌝ }
 {
     if is_either(a.kind, Answer::NO_VERSION, Answer::VERSION) {
@@ -142,10 +143,10 @@ pub fn step_check(
     wall: i64,
     room: usize,
 ) -> u64
-    requires { ⌜ length (now board) ≡ boardSize ⌝ }
+    requires { ⌜ IsBoard (now board) ⌝ }
     ensures { λ r. ⌜ r ≡ stepCheck (worker e (boardIn (now (board .entry)))) (at clock wall) (answer a (now (list .entry))) room ⌝ }
 {
-    if room / 56 < 120 {
+    if room / CHANGE < MAX_NAMES {
         return 43;
     }
     if !ieee::times::is_clock(clock) {

@@ -4,7 +4,7 @@ ghost use mathlib.Core.Path.{_≡_};
 ghost use Prim.Native.Nat.{ℕ};
 ghost use lib.ListN.{length};
 ghost use Rattle.board.specs.Board.{boardIn};
-ghost use Rattle.board.specs.Regions.{boardSize};
+ghost use Rattle.board.specs.Layout.{IsBoard};
 ghost use Rattle.replies.specs.Worker.{at, worker, Done};
 ghost use Rattle.worker.specs.Answers.{answer, connectAnswered, taken, handled, step, Stepped};
 use super::answers::back_applied;
@@ -39,7 +39,7 @@ use replies::reply::Reply;
 use replies::reply::Said;
 
 fn connect(board: &mut [u8], out: &mut [u8], e: Engine, a: Answer) -> Said
-    requires { ⌜ length (now board) ≡ boardSize ⌝ }
+    requires { ⌜ IsBoard (now board) ⌝ }
     ensures { λ s. ⌜ ((list : List ℕ) → Done (connectAnswered (worker e (boardIn (now (board .entry)))) (answer a list)) s (now (board .exit)) (now (out .entry)) (now (out .exit))) ⌝ }
 {
     if a.kind == Answer::OPENED {
@@ -50,7 +50,7 @@ fn connect(board: &mut [u8], out: &mut [u8], e: Engine, a: Answer) -> Said
 
 // An event was taken.
 fn taken(board: &mut [u8], out: &mut [u8], e: Engine, p: Phase, clock: f64, wall: i64) -> Said
-    requires { ⌜ length (now board) ≡ boardSize ⌝ }
+    requires { ⌜ IsBoard (now board) ⌝ }
     ensures { λ s. ⌜ Done (taken p (worker e (boardIn (now (board .entry)))) (at clock wall)) s (now (board .exit)) (now (out .entry)) (now (out .exit)) ⌝ }
 {
     let progress = e.progress;
@@ -84,7 +84,7 @@ fn handled(
     clock: f64,
     wall: i64,
 ) -> Said
-    requires { ⌜ length (now board) ≡ boardSize ⌝ }
+    requires { ⌜ IsBoard (now board) ⌝ }
     ensures { λ s. ⌜ Done (handled p (worker e (boardIn (now (board .entry)))) (at clock wall) (answer a (now (list .entry)))) s (now (board .exit)) (now (out .entry)) (now (out .exit)) ⌝ }
 {
     match p {
@@ -112,7 +112,7 @@ pub fn step(
     clock: f64,
     wall: i64,
 ) -> Said
-    requires { ⌜ length (now board) ≡ boardSize ⌝ }
+    requires { ⌜ IsBoard (now board) ⌝ }
     ensures { λ s. ⌜ Stepped (step (worker e (boardIn (now (board .entry)))) (at clock wall) (answer a (now (list .entry))) (length (now (out .entry)))) s (now (board .entry)) (now (board .exit)) (now (out .entry)) (now (out .exit)) ⌝ }
 {
     let n = step_check(board, e, a, list, clock, wall, out.len());

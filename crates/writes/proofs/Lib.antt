@@ -1,4 +1,4 @@
--- Laws of the queue of writes and of the read-back.
-pub mod QueueLaws
+-- Laws of the read-back, and of writes that are not made.
+pub mod FailLaws
 pub mod ReadBackLaws
 pub mod OnceLaws

@@ -1,34 +1,38 @@
--- The tags that are read back, pushed one by one.
+-- The tags that are read back, asked for one by one.
 use mathlib.Core.Path.{_≡_, ap, sym, _∙_}
 use mathlib.Core.List.{List, [], _∷_}
-use Prim.Native.Nat.{ℕ, _-_, _%_, _≤_, _<_}
-use native.Mathlib.Nat.{mod-eq-of-lt}
+use Prim.Native.Nat.{ℕ, _-_, _≤_, _<_}
+use native.Mathlib.Omega.{arith}
 use borrow.Author.Tests.{lt-ltb, le-ltb}
-use lib.ListN.{length, getD, take}
+use lib.ListN.{getD, take}
 use lib.Seq.{take-nil}
-use Rattle.tags.specs.Lists.{listIn, room, pushed}
-use Rattle.tags.proofs.ListLaws.{room-same}
+use Rattle.tags.specs.Lists.{pushed}
 use Rattle.tags.proofs.CollectLaws.{pushed-clipped}
+use Rattle.board.specs.Board.{Board, withAsked}
 use Rattle.writes.specs.ReadBack.{readBackTags}
 
--- the tag, pushed onto a list that was cleared
-pub pushed-first : (list none one : List ℕ) (k : ℕ) → k < 65536 → length none ≡ length list → listIn none ≡ [] → listIn one ≡ pushed (room none) (listIn none) (k % 65536)
-    → listIn one ≡ pushed (room list) [] k
-pushed-first list none one k small same clear push =
-    push
-    ∙ ap (λ (m : ℕ). pushed m (listIn none) (k % 65536)) (room-same none list same)
-    ∙ ap (λ (l : List ℕ). pushed (room list) l (k % 65536)) clear
-    ∙ ap (pushed (room list) []) (mod-eq-of-lt small)
+-- B1 asks for nothing, B2 for the tag
+module _ (B B1 B2 : Board) (k : ℕ) (none : B1 ≡ withAsked B []) (first : B2 ≡ withAsked B1 (pushed (B1 .askedRoom) (B1 .asked) k)) where
+  abbrev code : ℕ
+  code = getD (B .table .words) k 0
 
-module _ (n : ℕ) (words : List ℕ) (k : ℕ) (o : List ℕ) (first : o ≡ pushed n [] k) where
-  one : o ≡ take n (k ∷ [])
-  one = first ∙ ap (λ (l : List ℕ). pushed n l k) (sym (take-nil n)) ∙ pushed-clipped n [] k
+  one : B2 ≡ withAsked B (take (B .askedRoom) (k ∷ []))
+  one =
+      first
+      ∙ ap (λ (X : Board). withAsked X (pushed (X .askedRoom) (X .asked) k)) none
+      ∙ ap (λ (l : List ℕ). withAsked B (pushed (B .askedRoom) l k)) (sym (take-nil (B .askedRoom)))
+      ∙ ap (λ (l : List ℕ). withAsked B l) (pushed-clipped (B .askedRoom) [] k)
 
-  pub read-back-word : 1 < getD words k 0 → pushed n o (getD words k 0 - 2) ≡ take n (readBackTags words k)
-  read-back-word h =
-      ap (λ (l : List ℕ). pushed n l (getD words k 0 - 2)) one
-      ∙ pushed-clipped n (k ∷ []) (getD words k 0 - 2)
-      ∙ rw (lt-ltb 1 (getD words k 0) h)
+  same-code : getD (B2 .table .words) k 0 ≡ code
+  same-code = ap (λ (X : Board). getD (X .table .words) k 0) one
 
-  pub read-back-tag : getD words k 0 ≤ 1 → o ≡ take n (readBackTags words k)
-  read-back-tag h = one ∙ rw (le-ltb 1 (getD words k 0) h)
+  pub tag-asked : getD (B2 .table .words) k 0 ≤ 1 → B2 ≡ withAsked B (take (B .askedRoom) (readBackTags (B .table .words) k))
+  tag-asked h = one ∙ rw (le-ltb 1 code (omega (arith, h, same-code)))
+
+  pub word-asked : (B3 : Board) → 1 < getD (B2 .table .words) k 0 → B3 ≡ withAsked B2 (pushed (B2 .askedRoom) (B2 .asked) (getD (B2 .table .words) k 0 - 2))
+      → B3 ≡ withAsked B (take (B .askedRoom) (readBackTags (B .table .words) k))
+  word-asked B3 h second =
+      second
+      ∙ ap (λ (X : Board). withAsked X (pushed (X .askedRoom) (X .asked) (getD (X .table .words) k 0 - 2))) one
+      ∙ ap (λ (l : List ℕ). withAsked B l) (pushed-clipped (B .askedRoom) (k ∷ []) (code - 2))
+      ∙ rw (lt-ltb 1 code (omega (arith, h, same-code)))

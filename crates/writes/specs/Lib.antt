@@ -1,3 +1,3 @@
--- Rule 8: the queue of writes, and the read-back.
-pub mod Queue
+-- Rule 8: the read-back, and writes that fail.
 pub mod ReadBack
+pub mod Failing

@@ -1,3 +1,4 @@
-// Rule 8: writes that wait, and what is read after one.
-pub mod queue;
+// Rule 8: what is read after a write, writes that fail, and what is asked for.
+pub mod failing;
 pub mod readback;
+pub mod request;

@@ -1,30 +1,41 @@
 // What is read after a write that went through.
 ghost use mathlib.Core.Path.{_≡_};
-ghost use Rattle.memory.specs.Halves.{halvesIn};
-ghost use Rattle.tags.specs.Lists.{listIn, room};
-ghost use Rattle.slices.specs.Room.{fitted};
-ghost use Rattle.writes.specs.ReadBack.{readBackTags, readBackValue, readBackFirst};
-use memory::halves::half;
+ghost use lib.ListN.{take};
+ghost use Rattle.board.specs.Layout.{IsBoard};
+ghost use Rattle.board.specs.Board.{Holds, boardIn, withAsked};
+ghost use Rattle.writes.specs.ReadBack.{readBackTags, readBackValue, readBackFirst, keptBack};
+use board::tag::word_of;
+use board::tag_lists::clear_asked;
+use board::tag_lists::push_asked;
+use board::tag_lists::shorten_asked;
+use board::waiting::put_back;
 use results::result::result_at;
-use tags::clear;
-use tags::push;
 use values::entry::TagResult;
 use values::entry::is_good;
 use values::entry::quality_of;
 use values::value::Value;
 
-// The tag written, and for a bit its word where the directory has it, into `list`. `words` has for each tag 0 where it
-// is no bit, 1 for a bit without its word, and otherwise the word's tag and 2.
-pub fn list_read_back(words: &[u8], k: u16, list: &mut [u8])
-    ensures { λ _. ⌜ listIn (now (list .exit)) ≡ fitted (room (now (list .entry))) (readBackTags (halvesIn (now (words .entry))) k) ⌝ }
+// The tag written, and for a bit its word where the directory has it, are asked for. `word_of` gives 0 where the tag is
+// no bit, 1 for a bit without its word, and otherwise the word's tag and 2.
+pub fn ask_read_back(b: &mut [u8], k: u16)
+    requires { ⌜ IsBoard (now b) ⌝ }
+    ensures { λ _. ⌜ Holds (now (b .exit)) (withAsked (boardIn (now (b .entry))) (take (boardIn (now (b .entry)) .askedRoom) (readBackTags (boardIn (now (b .entry)) .table .words) k))) ⌝ }
 {
-    clear(list);
-    let tag = k as usize;
-    push(list, tag);
-    let code = half(words, tag);
+    clear_asked(b);
+    push_asked(b, k);
+    let code = word_of(b, k as usize);
     if 1 < code {
-        push(list, code - 2);
+        push_asked(b, (code - 2) as u16);
     }
+}
+
+// The results of a read-back are kept until its outcome has been taken, and the tags that they cover.
+pub fn keep_back(b: &mut [u8], results: &[u8])
+    requires { ⌜ IsBoard (now b) ⌝ }
+    ensures { λ _. ⌜ Holds (now (b .exit)) (keptBack (boardIn (now (b .entry))) (now (results .entry))) ⌝ }
+{
+    shorten_asked(b, results.len() / 32);
+    put_back(b, results);
 }
 
 fn good_value(r: TagResult) -> Value

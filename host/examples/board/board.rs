@@ -182,7 +182,7 @@ impl Board {
             Quality::Missing => self.notes.push(format!("{name} is missing: {}", text(entry.error))),
             Quality::Bad => self.totals.bad += 1,
             Quality::Good if before == Some(Quality::Missing) => self.notes.push(format!("{name} is back")),
-            Quality::Good | Quality::Stale => {}
+            _ => {}
         }
     }
 
@@ -193,6 +193,7 @@ impl Board {
             Outcome::Written(value) => (&mut self.totals.written, format!("{name} written, reads {}", shown(value))),
             Outcome::Refused(error) => (&mut self.totals.refused, format!("{name} refused: {}", text(Some(error)))),
             Outcome::Lost => (&mut self.totals.lost, format!("the write to {name} was lost")),
+            other => return self.notes.push(format!("the write to {name} ended: {other:?}")),
         };
         *count += 1;
         self.notes.push(note);
@@ -258,6 +259,7 @@ pub fn shown(value: Value) -> String {
         Value::Bool(on) => if on { "1" } else { "0" }.to_owned(),
         Value::Int(n) => n.to_string(),
         Value::Float(x) => format!("{x:.1}"),
+        _ => "?".to_owned(),
     }
 }
 

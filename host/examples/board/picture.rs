@@ -94,6 +94,7 @@ fn cell(paint: &Paint, board: &Board, tag: u32, now: Micros, width: usize) -> St
         Quality::Bad => ('b', "33"),
         Quality::Missing => ('m', "35"),
         Quality::Stale => ('s', "2"),
+        _ => ('?', ""),
     };
     paint.with(colour, &format!("{mark}{:>width$}{quality}{:>2}", value(&entry), age(&entry, now)))
 }

@@ -1,80 +1,51 @@
 -- `descriptions::use_up` meets its contract.
-use borrow.Author.Needs.{needs}
-use mathlib.Core.Path.{_≡_, refl, ap, sym, _∙_}
-use mathlib.Core.Logic.{⊎-elim}
-use Prim.Native.Nat.{_≤_, _-_, _<_}
-use native.Mathlib.Omega.{arith}
+use mathlib.Core.List.{List, map}
 use denote.Ref.{now}
-use lib.ListN.{length}
-use Rattle.memory.proofs.LoopLaws.{mapped, mapped-none, mapped-all}
-use Rattle.table.specs.Table.{tableIn}
-use Rattle.table.proofs.RowLaws.{length-table}
+use Rattle.table.specs.declared.tag.Tag.{Tag}
+use Rattle.board.proofs.BoardLaws.{tags-put}
 use Rattle.descriptions.specs.Descriptions.{unwanted}
-use Rattle.descriptions.proofs.Laws.{unwanted-put, unwanted-kept}
+use borrow.Author.Needs.{needs}
 use Rattle.descriptions.proofs.use_up.Statement.{statement}
 use Rattle.descriptions.proofs.use_up.Tie as tie
 
-abbrev Inv-loop : tie.InvT-loop
-Inv-loop t₀ n k₀ t k = (k ≤ n) × ((length t ≡ length t₀) × (tableIn t ≡ mapped unwanted k (tableIn t₀)))
+table-start-requires : tie.Need-table-start-requires
+table-start-requires c κs = search needs
 
-abbrev μ-loop : tie.MeasureT-loop
-μ-loop t₀ n k₀ t k = n - k
+order-start-requires : tie.Need-order-start-requires
+order-start-requires c κs = search needs
 
-loop-holds : tie.Need-loop-holds Inv-loop μ-loop
-loop-holds c = (omega arith, (refl, mapped-none unwanted (tableIn (now (c .before .args .t)))))
+sub-use-up-in : tie.Need-sub-use-up-in
+sub-use-up-in c = search needs
 
-wants-of-requires : tie.Need-wants-of-requires Inv-loop μ-loop
-wants-of-requires c κs = search needs
+part-use-up-in-start : tie.Need-part-use-up-in-start
+part-use-up-in-start c = search needs
 
-put-wants-requires : tie.Need-put-wants-requires Inv-loop μ-loop
-put-wants-requires c κs = search needs
+part-use-up-in-end : tie.Need-part-use-up-in-end
+part-use-up-in-end c = search needs
 
-add-k : tie.Need-add-k Inv-loop μ-loop
-add-k c = omega arith
+use-up-in-requires : tie.Need-use-up-in-requires
+use-up-in-requires c κs = search needs
 
-loop-less : tie.Need-loop-less Inv-loop μ-loop
-loop-less c = omega arith
+same-length : tie.Need-same-length
+same-length c = search needs
 
-loop-again : tie.Need-loop-again Inv-loop μ-loop
-loop-again c =
-    let a = c .before .before .before .before .before .before .args in
-    let l = c .before .before .before .before .loop in
-    let flag = c .before .wants-of in
-    let tags = tableIn (now (a .t)) in
-    let h : l .k < length tags = omega (arith, length-table (now (a .t))) in (
-      omega arith,
-      ⊎-elim
-          (λ w. (
-            ap length (w .5) ∙ w .2 .kept .0 ∙ l .inv .1 .0,
-            ap tableIn (w .5) ∙ w .2 .ensures ∙ unwanted-put tags (l .k) (tableIn (l .t)) (l .inv .1 .1) h,
-          ))
-          (λ w. (
-            ap length (w .1) ∙ l .inv .1 .0,
-            ap tableIn (w .1) ∙ unwanted-kept tags (l .k) (tableIn (l .t)) (l .inv .1 .1) h (sym (flag .ensures) ∙ w .0 .left),
-          ))
-          (c .if1 .came),
-    )
-
-same-length : tie.Need-same-length Inv-loop μ-loop
-same-length c = c .before .loop .inv .1 .0
-
-returns : tie.Need-returns Inv-loop μ-loop
+returns : tie.Need-returns
 returns c =
-    let a = c .before .before .before .args in
-    let l = c .before .loop in
-    l .inv .1 .1 ∙ mapped-all unwanted (tableIn (now (a .t))) (l .k) (omega (arith, length-table (now (a .t))))
+    let s = c .before .before .before .before .before .before .before .before .before in
+    let from = c .before .before .before .before .before .before .table-start in
+    let to = c .before .before .before .before .order-start in
+    let put = c .before .before .use-up-in in
+    tags-put (now (s .args .b)) (put .last .0) (s .pre) (from .result) (to .result) (from .ensures) (to .ensures) (λ (ts : List Tag). map unwanted ts) (put .kept .0) (put .ensures)
 
 pub use-up-spec : {M : Type 1} → statement M
 use-up-spec =
     tie.close
     (tie.spec
-    Inv-loop
-    μ-loop
-    loop-holds
-    wants-of-requires
-    put-wants-requires
-    add-k
-    loop-less
-    loop-again
+    table-start-requires
+    order-start-requires
+    sub-use-up-in
+    part-use-up-in-start
+    part-use-up-in-end
+    use-up-in-requires
     same-length
     returns)

@@ -39,7 +39,7 @@ returns c =
     let a = c .before .before .before .before .before .before .before .before .before .before .before .before .before .before .before .before .before .before .before .before .before .before .before .before .before .args in
     let t = now (a .t) in
     let w = getD (rowsIn t) (a .k) noRow in
-    table-put t (c .before .before .put-row-cell6 .last .0) (set (set (set (set (set (set w 4 0) 5 0) 6 0) 7 0) 16 0) 22 0) (a .k) (rows-put-more t (c .before .before .before .before .before .before .put-row-cell5 .last .0) (c .before .before .put-row-cell6 .last .0) (set (set (set (set (set w 4 0) 5 0) 6 0) 7 0) 16 0) (a .k) 22 0 (rows-put-more t (c .before .before .before .before .before .before .before .before .before .before .put-row-cell4 .last .0) (c .before .before .before .before .before .before .put-row-cell5 .last .0) (set (set (set (set w 4 0) 5 0) 6 0) 7 0) (a .k) 16 0 (rows-put-more t (c .before .before .before .before .before .before .before .before .before .before .before .before .before .before .put-row-cell3 .last .0) (c .before .before .before .before .before .before .before .before .before .before .put-row-cell4 .last .0) (set (set (set w 4 0) 5 0) 6 0) (a .k) 7 0 (rows-put-more t (c .before .before .before .before .before .before .before .before .before .before .before .before .before .before .before .before .before .before .put-row-cell2 .last .0) (c .before .before .before .before .before .before .before .before .before .before .before .before .before .before .put-row-cell3 .last .0) (set (set w 4 0) 5 0) (a .k) 6 0 (rows-put-more t (c .before .before .before .before .before .before .before .before .before .before .before .before .before .before .before .before .before .before .before .before .before .before .put-row-cell .last .0) (c .before .before .before .before .before .before .before .before .before .before .before .before .before .before .before .before .before .before .put-row-cell2 .last .0) (set w 4 0) (a .k) 5 0 (c .before .before .before .before .before .before .before .before .before .before .before .before .before .before .before .before .before .before .before .before .before .before .put-row-cell .ensures) (c .before .before .before .before .before .before .before .before .before .before .before .before .before .before .before .before .before .before .put-row-cell2 .ensures)) (c .before .before .before .before .before .before .before .before .before .before .before .before .before .before .put-row-cell3 .ensures)) (c .before .before .before .before .before .before .before .before .before .before .put-row-cell4 .ensures)) (c .before .before .before .before .before .before .put-row-cell5 .ensures)) (c .before .before .put-row-cell6 .ensures))
+    table-put t (c .before .before .put-row-cell6 .last .0) (set (set (set (set (set (set w 4 0) 5 0) 6 0) 7 0) 16 0) 24 0) (a .k) (rows-put-more t (c .before .before .before .before .before .before .put-row-cell5 .last .0) (c .before .before .put-row-cell6 .last .0) (set (set (set (set (set w 4 0) 5 0) 6 0) 7 0) 16 0) (a .k) 24 0 (rows-put-more t (c .before .before .before .before .before .before .before .before .before .before .put-row-cell4 .last .0) (c .before .before .before .before .before .before .put-row-cell5 .last .0) (set (set (set (set w 4 0) 5 0) 6 0) 7 0) (a .k) 16 0 (rows-put-more t (c .before .before .before .before .before .before .before .before .before .before .before .before .before .before .put-row-cell3 .last .0) (c .before .before .before .before .before .before .before .before .before .before .put-row-cell4 .last .0) (set (set (set w 4 0) 5 0) 6 0) (a .k) 7 0 (rows-put-more t (c .before .before .before .before .before .before .before .before .before .before .before .before .before .before .before .before .before .before .put-row-cell2 .last .0) (c .before .before .before .before .before .before .before .before .before .before .before .before .before .before .put-row-cell3 .last .0) (set (set w 4 0) 5 0) (a .k) 6 0 (rows-put-more t (c .before .before .before .before .before .before .before .before .before .before .before .before .before .before .before .before .before .before .before .before .before .before .put-row-cell .last .0) (c .before .before .before .before .before .before .before .before .before .before .before .before .before .before .before .before .before .before .put-row-cell2 .last .0) (set w 4 0) (a .k) 5 0 (c .before .before .before .before .before .before .before .before .before .before .before .before .before .before .before .before .before .before .before .before .before .before .put-row-cell .ensures) (c .before .before .before .before .before .before .before .before .before .before .before .before .before .before .before .before .before .before .put-row-cell2 .ensures)) (c .before .before .before .before .before .before .before .before .before .before .before .before .before .before .put-row-cell3 .ensures)) (c .before .before .before .before .before .before .before .before .before .before .put-row-cell4 .ensures)) (c .before .before .before .before .before .before .put-row-cell5 .ensures)) (c .before .before .put-row-cell6 .ensures))
     ∙ ap (set (tableIn t) (a .k)) (readings-forgotten w (row-long t (a .k)) ∙ rw (← (table-at t (a .k))))
 
 pub forget-spec : {M : Type 1} → statement M

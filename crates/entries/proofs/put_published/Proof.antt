@@ -27,7 +27,7 @@ returns c =
     let t = now (a .t) in
     let w = getD (rowsIn t) (a .k) noRow in
     let v = c .before .before .before .before .entry-words in
-    table-put t (c .before .before .put-words .last .0) (withEntryWords w 22 (v .result)) (a .k) (c .before .before .put-words .ensures)
+    table-put t (c .before .before .put-words .last .0) (withEntryWords w 24 (v .result)) (a .k) (c .before .before .put-words .ensures)
     ∙ ap (set (tableIn t) (a .k)) (published-put w (row-long t (a .k)) (v .result) (a .e) (v .ensures .0) ∙ rw (← (table-at t (a .k))))
 
 pub put-published-spec : {M : Type 1} → statement M

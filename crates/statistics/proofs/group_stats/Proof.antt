@@ -9,8 +9,8 @@ use lib.ListN.{length, take, length-take}
 use lib.Seq.{take-all}
 use Rattle.tags.specs.Lists.{listIn}
 use Rattle.settings.specs.Configured.{configuredIn}
-use Rattle.lent.specs.Lent.{wroteCells, recordPut, records}
-use Rattle.lent.proofs.LentLaws.{all-fits, all-kept}
+use Rattle.lent.specs.Lent.{cellBytes, overBytes, recordPut, records}
+use Rattle.lent.proofs.LentLaws.{cells-fit, cells-left}
 use Rattle.statistics.specs.Numbers.{firsts, named}
 use Rattle.statistics.specs.Stats.{facts, statCells, groupStats}
 use Rattle.statistics.proofs.NumberLaws.{firsts-none, length-yes, firsts-no, firsts-part, firsts-short}
@@ -25,7 +25,7 @@ all configured recorded = named (configuredIn configured) (listIn recorded)
 abbrev Inv-loop : tie.InvT-loop
 Inv-loop t order configured groups recorded out₀ n m done₀ i₀ out done i =
     (i ≤ m) × ((done ≡ length (firsts (take i (all configured recorded)))) × ((length out ≡ length out₀)
-    × (out ≡ wroteCells out₀ (records (statCells (facts t order configured groups recorded)) (firsts (take i (all configured recorded)))))))
+    × (out ≡ overBytes out₀ (cellBytes (records (statCells (facts t order configured groups recorded)) (firsts (take i (all configured recorded))))))))
 
 abbrev μ-loop : tie.MeasureT-loop
 μ-loop t order configured groups recorded out₀ n m done₀ i₀ out done i = m - i
@@ -38,7 +38,7 @@ returns c =
     let a = c .before .before .before .before .before .before .before .before .args in
     let F = facts (now (a .t)) (now (a .order)) (now (a .configured)) (now (a .groups)) (now (a .recorded)) in
     let long = length-stats F in
-    (sym (told-none F (now (a .out)) (omega arith)), sym (all-kept (now (a .out)) (groupStats F) (omega arith)))
+    (sym (told-none F (now (a .out)) (omega arith)), sym (cells-left (now (a .out)) (groupStats F) (omega arith)))
 
 named-count-requires : tie.Need-named-count-requires Inv-loop μ-loop
 named-count-requires c κs = search needs
@@ -95,15 +95,15 @@ loop-again c =
               ap length (w .6) ∙ w .3 .kept .1 .1 .1 .1 .1 .0 ∙ l .inv .1 .1 .0,
               w .6 ∙ w .3 .ensures
                   ∙ ap (λ (o : List ℕ). recordPut o (5 * l .done) (f (w .1 .result))) (l .inv .1 .1 .1)
-                  ∙ ap (λ (d : ℕ). recordPut (wroteCells out (records f (firsts (take i xs)))) (5 * d) (f (w .1 .result))) (l .inv .1 .0)
-                  ∙ ap (λ (k : ℕ). recordPut (wroteCells out (records f (firsts (take i xs)))) (5 * length (firsts (take i xs))) (f k)) (w .1 .ensures)
+                  ∙ ap (λ (d : ℕ). recordPut (overBytes out (cellBytes (records f (firsts (take i xs))))) (5 * d) (f (w .1 .result))) (l .inv .1 .0)
+                  ∙ ap (λ (k : ℕ). recordPut (overBytes out (cellBytes (records f (firsts (take i xs))))) (5 * length (firsts (take i xs))) (f k)) (w .1 .ensures)
                   ∙ stat-next F out xs i (omega arith) (first ∙ w .0 .taken) (omega arith),
             ),
           ))
           (λ w.
           let same = sym (firsts-no xs i (omega arith) (first ∙ w .0 .left)) in (
             w .2 ∙ l .inv .1 .0 ∙ ap length same,
-            (ap length (w .1) ∙ l .inv .1 .1 .0, w .1 ∙ l .inv .1 .1 .1 ∙ ap (λ (ks : List ℕ). wroteCells out (records f ks)) same),
+            (ap length (w .1) ∙ l .inv .1 .1 .0, w .1 ∙ l .inv .1 .1 .1 ∙ ap (λ (ks : List ℕ). overBytes out (cellBytes (records f ks))) same),
           ))
           (c .if2 .came),
     )
@@ -122,8 +122,8 @@ returns-2 c =
     let long = length-stats F in (
       c .before .before .before .before .group-count .ensures ∙ sym (told-all F out (omega arith)),
       l .inv .1 .1 .1
-          ∙ ap (λ (ks : List ℕ). wroteCells out (records (statCells F) (firsts ks))) (take-all (l .i) xs (omega arith))
-          ∙ sym (all-fits out (groupStats F) (omega arith)),
+          ∙ ap (λ (ks : List ℕ). overBytes out (cellBytes (records (statCells F) (firsts ks)))) (take-all (l .i) xs (omega arith))
+          ∙ sym (cells-fit out (groupStats F) (omega arith)),
     )
 
 pub group-stats-spec : {M : Type 1} → statement M

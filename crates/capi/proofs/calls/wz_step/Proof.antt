@@ -1,7 +1,8 @@
 -- `capi::calls::wz_step` meets its contract.
+use mathlib.Core.Path.{sym, _∙_, ap}
 use Rattle.capi.proofs.CallLaws.{alien-step, refused-step, done-step}
 use Rattle.capi.specs.Calls.{answerOf, SteppedBoard}
-use Rattle.capi.specs.Memory.{workerIn}
+use Rattle.capi.specs.Memory.{sizeCheck, workerIn}
 use Rattle.replies.specs.Worker.{at, worker}
 use Rattle.worker.specs.Answers.{Answer, step}
 use Rattle.engine.specs.declared.Engine.{Engine}
@@ -17,6 +18,12 @@ use borrow.Author.Needs.{needs}
 use Rattle.capi.proofs.calls.wz_step.Statement.{statement}
 use Rattle.capi.proofs.calls.wz_step.Tie as tie
 
+size-check-requires : tie.Need-size-check-requires
+size-check-requires c κs = search needs
+
+cast-refused : tie.Need-cast-refused
+cast-refused c = search needs
+
 refused-requires : tie.Need-refused-requires
 refused-requires c κs = search needs
 
@@ -30,7 +37,7 @@ told : (s : tie.Start) (e : Engine) (r : Said) (x : Answer) (bs new out out' : L
 told s e r x bs new out out' d = rw (← toZ-ofZ (fits-wall s)) d
 
 returns : tie.Need-returns
-returns c = alien-step _ _ _ _ (c .before .if1 .taken) (c .refused .ensures)
+returns c = alien-step _ _ _ _ (λ g. c .before .if1 .taken (c .before .before .size-check .ensures ∙ g)) (c .refused .ensures)
 
 head-of-requires : tie.Need-head-of-requires
 head-of-requires c κs = search needs
@@ -46,18 +53,18 @@ same-length-2 c = search needs
 
 returns-2 : tie.Need-returns-2
 returns-2 c =
-    let s = c .before .before .before .before .before .before .before .before .before .before .before .before .before .before .before .before in
+    let s = c .before .before .before .before .before .before .before .before .before .before .before .before .before .before .before .before .before in
     let a = s .args in
     let bs = now (a .mem) in
     let out = now (a .out) in
     let x = answerOf (a .kind) (a .number) (a .message) (now (a .list)) in
     let e = c .before .before .before .before .before .before .before .before .before .before .head-of in
     let f = c .before .before .before .before .before .before .before .step in
-    refused-step bs (f .last .0) out (f .last .1 .0) (f .result) (e .result) (at (a .clock) (a .wall)) x (c .before .before .before .before .before .before .before .before .before .before .before .before .if1 .left) (e .ensures)
+    refused-step bs (f .last .0) out (f .last .1 .0) (f .result) (e .result) (at (a .clock) (a .wall)) x (sym (c .before .before .before .before .before .before .before .before .before .before .before .before .before .size-check .ensures) ∙ c .before .before .before .before .before .before .before .before .before .before .before .before .if1 .left) (e .ensures)
     (told s (e .result) (f .result) x bs (f .last .0) out (f .last .1 .0) (f .ensures)) (c .if2 .taken) (search needs)
 
 put-head-requires : tie.Need-put-head-requires
-put-head-requires c κs = search needs
+put-head-requires c κs = ap sizeCheck (c .before .before .before .before .before .before .before .before .step .kept .0) ∙ (sym (c .before .before .before .before .before .before .before .before .before .before .before .before .before .before .size-check .ensures) ∙ c .before .before .before .before .before .before .before .before .before .before .before .before .before .if1 .left)
 
 same-length-3 : tie.Need-same-length-3
 same-length-3 c = search needs
@@ -67,20 +74,22 @@ same-length-4 c = search needs
 
 returns-3 : tie.Need-returns-3
 returns-3 c =
-    let s = c .before .before .before .before .before .before .before .before .before .before .before .before .before .before .before .before .before .before .before .before in
+    let s = c .before .before .before .before .before .before .before .before .before .before .before .before .before .before .before .before .before .before .before .before .before in
     let a = s .args in
     let bs = now (a .mem) in
     let out = now (a .out) in
     let x = answerOf (a .kind) (a .number) (a .message) (now (a .list)) in
     let e = c .before .before .before .before .before .before .before .before .before .before .before .before .before .before .head-of in
     let f = c .before .before .before .before .before .before .before .before .before .before .before .step in
-    done-step bs (f .last .0) out (f .last .1 .0) (f .result) (e .result) (at (a .clock) (a .wall)) x (c .before .before .before .before .before .before .before .before .before .before .before .before .before .before .before .before .if1 .left) (e .ensures)
+    done-step bs (f .last .0) out (f .last .1 .0) (f .result) (e .result) (at (a .clock) (a .wall)) x (sym (c .before .before .before .before .before .before .before .before .before .before .before .before .before .before .before .before .before .size-check .ensures) ∙ c .before .before .before .before .before .before .before .before .before .before .before .before .before .before .before .before .if1 .left) (e .ensures)
     (told s (e .result) (f .result) x bs (f .last .0) out (f .last .1 .0) (f .ensures)) (c .before .before .put-head .last .0) (c .before .before .before .before .if2 .left) (c .before .before .put-head .ensures) (search needs)
 
 pub wz-step-spec : {M : Type 1} → statement M
 wz-step-spec =
     tie.close
     (tie.spec
+    size-check-requires
+    cast-refused
     refused-requires
     returns
     head-of-requires

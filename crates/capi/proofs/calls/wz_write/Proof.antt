@@ -13,8 +13,11 @@ use borrow.Author.Needs.{needs}
 use Rattle.capi.proofs.calls.wz_write.Statement.{statement}
 use Rattle.capi.proofs.calls.wz_write.Tie as tie
 
+size-check-requires : tie.Need-size-check-requires
+size-check-requires c κs = search needs
+
 returns : tie.Need-returns
-returns c = alien-call _ _ _ (c .if1 .taken)
+returns c = alien-call _ _ _ (λ g. c .if1 .taken (c .before .size-check .ensures ∙ g))
 
 value-from-requires : tie.Need-value-from-requires
 value-from-requires c κs = search needs
@@ -27,13 +30,13 @@ same-length c = search needs
 
 returns-2 : tie.Need-returns-2
 returns-2 c =
-    let a = c .before .before .before .before .before .before .args in
+    let a = c .before .before .before .before .before .before .before .args in
     let bs = now (a .mem) in
-    refused-call bs _ _ _ (c .before .before .before .before .if1 .left) (c .before .write-check .ensures ∙ ap (λ (v : Value). writeCheck (workerIn bs) (a .tag) v) (c .before .before .before .value-from .ensures)) (c .if2 .taken)
+    refused-call bs _ _ _ (sym (c .before .before .before .before .before .size-check .ensures) ∙ c .before .before .before .before .if1 .left) (c .before .write-check .ensures ∙ ap (λ (v : Value). writeCheck (workerIn bs) (a .tag) v) (c .before .before .before .value-from .ensures)) (c .if2 .taken)
 
-cast-t12 : tie.Need-cast-t12
-cast-t12 c =
-    let a = c .before .before .before .before .before .before .args in
+cast-t13 : tie.Need-cast-t13
+cast-t13 c =
+    let a = c .before .before .before .before .before .before .before .args in
     let p = write-passed (workerIn (now (a .mem))) (a .tag) _ (sym (c .before .write-check .ensures) ∙ c .if2 .left) in
     omega (arith, p, count-small (now (a .mem)))
 
@@ -45,10 +48,10 @@ same-length-2 c = search needs
 
 returns-3 : tie.Need-returns-3
 returns-3 c =
-    let a = c .before .before .before .before .before .before .before .before .before .before .args in
+    let a = c .before .before .before .before .before .before .before .before .before .before .before .args in
     let bs = now (a .mem) in
     let v = c .before .before .before .before .before .before .before .value-from in
-    done-call bs _ _ _ (c .before .before .before .before .before .before .before .before .if1 .left)
+    done-call bs _ _ _ (sym (c .before .before .before .before .before .before .before .before .before .size-check .ensures) ∙ c .before .before .before .before .before .before .before .before .if1 .left)
     (sym (c .before .before .before .before .if2 .left) ∙ c .before .before .before .before .before .write-check .ensures ∙ ap (λ (x : Value). writeCheck (workerIn bs) (a .tag) x) (v .ensures))
     (c .before .before .push-write .ensures ∙ ap (λ (x : Value). wrote (workerIn bs) (a .tag) x) (v .ensures))
     (search needs)
@@ -57,12 +60,13 @@ pub wz-write-spec : {M : Type 1} → statement M
 wz-write-spec =
     tie.close
     (tie.spec
+    size-check-requires
     returns
     value-from-requires
     write-check-requires
     same-length
     returns-2
-    cast-t12
+    cast-t13
     push-write-requires
     same-length-2
     returns-3)

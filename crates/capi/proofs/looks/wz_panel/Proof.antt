@@ -1,13 +1,18 @@
 -- `capi::looks::wz_panel` meets its contract.
+use mathlib.Core.Path.{sym, _∙_}
 use denote.Ref.{now}
 use lib.ListN.{length}
-use Rattle.panel.specs.Panel.{written}
+use Rattle.names.specs.Directory.{maxNames}
+use Rattle.panel.specs.Panel.{panelRoom, written}
 use Rattle.capi.specs.Memory.{workerIn}
 use Rattle.capi.specs.Looks.{panelBytes, panelCount}
 use Rattle.capi.proofs.LookLaws.{list-alien, list-own}
 use borrow.Author.Needs.{needs}
 use Rattle.capi.proofs.looks.wz_panel.Statement.{statement}
 use Rattle.capi.proofs.looks.wz_panel.Tie as tie
+
+size-check-requires : tie.Need-size-check-requires
+size-check-requires c κs = search needs
 
 cast-listed : tie.Need-cast-listed
 cast-listed c = search needs
@@ -17,20 +22,14 @@ listed-requires c κs = search needs
 
 returns : tie.Need-returns
 returns c =
-    let s = c .before .before .before .before in
+    let s = c .before .before .before .before .before in
     let mem = now (s .args .mem) in
     let out = now (s .args .out) in
     let W = workerIn mem in
-    list-alien mem (length out) 241 (panelCount W out) out (written out (panelBytes W)) (c .listed .result) (c .before .if1 .taken) (c .listed .ensures)
+    list-alien mem (length out) (panelRoom maxNames) (panelCount W out) out (written out (panelBytes W)) (c .listed .result) (λ g. c .before .if1 .taken (c .before .before .size-check .ensures ∙ g)) (c .listed .ensures)
 
-sub-panel : tie.Need-sub-panel
-sub-panel c = search needs
-
-part-panel-start : tie.Need-part-panel-start
-part-panel-start c = search needs
-
-part-panel-end : tie.Need-part-panel-end
-part-panel-end c = search needs
+board-of-requires : tie.Need-board-of-requires
+board-of-requires c κs = search needs
 
 panel-requires : tie.Need-panel-requires
 panel-requires c κs = search needs
@@ -41,23 +40,23 @@ same-length c = search needs
 returns-2 : tie.Need-returns-2
 unfolding workerIn
 returns-2 c =
-    let s = c .before .before .before .before .before .before .before .before in
+    let s = c .before .before .before .before .before .before .before .before .before in
     let mem = now (s .args .mem) in
     let out = now (s .args .out) in
     let W = workerIn mem in
     let call = c .before .before .panel in
-    list-own mem (length out) 241 (panelCount W out) out (call .last .1 .0) (written out (panelBytes W)) (call .result) (c .before .before .before .before .before .if1 .left) (call .ensures .0) (call .ensures .1)
+    let same = c .before .before .before .before .board-of .ensures .1 in
+    list-own mem (length out) (panelRoom maxNames) (panelCount W out) out (call .last .1 .0) (written out (panelBytes W)) (call .result) (sym (c .before .before .before .before .before .before .size-check .ensures) ∙ c .before .before .before .before .before .if1 .left) (rw same at (call .ensures .0)) (rw same at (call .ensures .1))
 
 pub wz-panel-spec : {M : Type 1} → statement M
 wz-panel-spec =
     tie.close
     (tie.spec
+    size-check-requires
     cast-listed
     listed-requires
     returns
-    sub-panel
-    part-panel-start
-    part-panel-end
+    board-of-requires
     panel-requires
     same-length
     returns-2)

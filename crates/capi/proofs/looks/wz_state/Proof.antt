@@ -10,6 +10,9 @@ use borrow.Author.Needs.{needs}
 use Rattle.capi.proofs.looks.wz_state.Statement.{statement}
 use Rattle.capi.proofs.looks.wz_state.Tie as tie
 
+size-check-requires : tie.Need-size-check-requires
+size-check-requires c κs = search needs
+
 cast-no-state : tie.Need-cast-no-state
 cast-no-state c = search needs
 
@@ -19,8 +22,8 @@ no-state-requires c κs = search needs
 returns : tie.Need-returns
 unfolding stateLook
 returns c =
-    let mem = now (c .before .before .before .args .mem) in
-    c .no-state .ensures ∙ sym (alien mem (stateOf (workerIn mem .head .link)) (noState notAnEngine) (c .before .if1 .taken))
+    let mem = now (c .before .before .before .before .args .mem) in
+    c .no-state .ensures ∙ sym (alien mem (stateOf (workerIn mem .head .link)) (noState notAnEngine) (λ g. c .before .if1 .taken (c .before .before .size-check .ensures ∙ g)))
 
 head-of-requires : tie.Need-head-of-requires
 head-of-requires c κs = search needs
@@ -31,11 +34,11 @@ state-of-requires c κs = search needs
 returns-2 : tie.Need-returns-2
 unfolding stateLook
 returns-2 c =
-    let mem = now (c .before .before .before .before .args .mem) in
+    let mem = now (c .before .before .before .before .before .args .mem) in
     c .state-of .ensures
     ∙ ap (λ (e : Engine). stateOf (e .link)) (c .before .head-of .ensures)
-    ∙ sym (own mem (stateOf (workerIn mem .head .link)) (noState notAnEngine) (c .before .before .if1 .left))
+    ∙ sym (own mem (stateOf (workerIn mem .head .link)) (noState notAnEngine) (sym (c .before .before .before .size-check .ensures) ∙ c .before .before .if1 .left))
 
 pub wz-state-spec : {M : Type 1} → statement M
 wz-state-spec =
-    tie.close (tie.spec cast-no-state no-state-requires returns head-of-requires state-of-requires returns-2)
+    tie.close (tie.spec size-check-requires cast-no-state no-state-requires returns head-of-requires state-of-requires returns-2)

@@ -1,15 +1,20 @@
 -- `capi::looks::wz_table` meets its contract.
+use mathlib.Core.Path.{sym, _∙_}
 use Prim.Native.Nat.{_/_}
 use denote.Ref.{now}
 use lib.ListN.{length}
-use Rattle.lent.specs.Lent.{records, wroteAll}
-use Rattle.board.specs.Board.{rowCells}
+use Rattle.names.specs.Directory.{maxNames}
+use Rattle.lent.specs.Lent.{cellBytes, records, wroteAll}
+use Rattle.shown.specs.Looks.{rowCells}
 use Rattle.capi.specs.Memory.{workerIn}
 use Rattle.capi.specs.Looks.{tableCount}
 use Rattle.capi.proofs.LookLaws.{list-alien, list-own}
 use borrow.Author.Needs.{needs}
 use Rattle.capi.proofs.looks.wz_table.Statement.{statement}
 use Rattle.capi.proofs.looks.wz_table.Tie as tie
+
+size-check-requires : tie.Need-size-check-requires
+size-check-requires c κs = search needs
 
 cast-listed : tie.Need-cast-listed
 cast-listed c = search needs
@@ -19,20 +24,14 @@ listed-requires c κs = search needs
 
 returns : tie.Need-returns
 returns c =
-    let s = c .before .before .before .before in
+    let s = c .before .before .before .before .before in
     let mem = now (s .args .mem) in
     let out = now (s .args .out) in
     let W = workerIn mem in
-    list-alien mem (length out / 16) (length (W .board .table .tags)) (tableCount W out) out (wroteAll out (records (rowCells (W .board)) (W .board .table .order))) (c .listed .result) (c .before .if1 .taken) (c .listed .ensures)
+    list-alien mem (length out / 16) maxNames (tableCount W out) out (wroteAll out (cellBytes (records (rowCells (W .board)) (W .board .table .order)))) (c .listed .result) (λ g. c .before .if1 .taken (c .before .before .size-check .ensures ∙ g)) (c .listed .ensures)
 
-sub-table : tie.Need-sub-table
-sub-table c = search needs
-
-part-table-start : tie.Need-part-table-start
-part-table-start c = search needs
-
-part-table-end : tie.Need-part-table-end
-part-table-end c = search needs
+board-of-requires : tie.Need-board-of-requires
+board-of-requires c κs = search needs
 
 table-requires : tie.Need-table-requires
 table-requires c κs = search needs
@@ -43,23 +42,23 @@ same-length c = search needs
 returns-2 : tie.Need-returns-2
 unfolding workerIn
 returns-2 c =
-    let s = c .before .before .before .before .before .before .before .before in
+    let s = c .before .before .before .before .before .before .before .before .before in
     let mem = now (s .args .mem) in
     let out = now (s .args .out) in
     let W = workerIn mem in
     let call = c .before .before .table in
-    list-own mem (length out / 16) (length (W .board .table .tags)) (tableCount W out) out (call .last .1 .0) (wroteAll out (records (rowCells (W .board)) (W .board .table .order))) (call .result) (c .before .before .before .before .before .if1 .left) (call .ensures .0) (call .ensures .1)
+    let same = c .before .before .before .before .board-of .ensures .1 in
+    list-own mem (length out / 16) maxNames (tableCount W out) out (call .last .1 .0) (wroteAll out (cellBytes (records (rowCells (W .board)) (W .board .table .order)))) (call .result) (sym (c .before .before .before .before .before .before .size-check .ensures) ∙ c .before .before .before .before .before .if1 .left) (rw same at (call .ensures .0)) (rw same at (call .ensures .1))
 
 pub wz-table-spec : {M : Type 1} → statement M
 wz-table-spec =
     tie.close
     (tie.spec
+    size-check-requires
     cast-listed
     listed-requires
     returns
-    sub-table
-    part-table-start
-    part-table-end
+    board-of-requires
     table-requires
     same-length
     returns-2)

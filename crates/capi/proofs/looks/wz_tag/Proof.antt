@@ -10,6 +10,9 @@ use borrow.Author.Needs.{needs}
 use Rattle.capi.proofs.looks.wz_tag.Statement.{statement}
 use Rattle.capi.proofs.looks.wz_tag.Tie as tie
 
+size-check-requires : tie.Need-size-check-requires
+size-check-requires c κs = search needs
+
 cast-no-look : tie.Need-cast-no-look
 cast-no-look c = search needs
 
@@ -19,22 +22,16 @@ no-look-requires c κs = search needs
 returns : tie.Need-returns
 unfolding tagLook
 returns c =
-    let a = c .before .before .before .args in
+    let a = c .before .before .before .before .args in
     let mem = now (a .mem) in
     let W = workerIn mem in
-    c .no-look .ensures ∙ sym (alien mem (tagFound (W .board) (W .head .count) (a .tag)) (noLook notAnEngine) (c .before .if1 .taken))
+    c .no-look .ensures ∙ sym (alien mem (tagFound (W .board) (W .head .count) (a .tag)) (noLook notAnEngine) (λ g. c .before .if1 .taken (c .before .before .size-check .ensures ∙ g)))
 
 head-of-requires : tie.Need-head-of-requires
 head-of-requires c κs = search needs
 
-sub-tag : tie.Need-sub-tag
-sub-tag c = search needs
-
-part-tag-start : tie.Need-part-tag-start
-part-tag-start c = search needs
-
-part-tag-end : tie.Need-part-tag-end
-part-tag-end c = search needs
+board-of-requires : tie.Need-board-of-requires
+board-of-requires c κs = search needs
 
 tag-requires : tie.Need-tag-requires
 tag-requires c κs = search needs
@@ -42,23 +39,23 @@ tag-requires c κs = search needs
 returns-2 : tie.Need-returns-2
 unfolding tagLook workerIn
 returns-2 c =
-    let a = c .before .before .before .before .before .args in
+    let a = c .before .before .before .before .before .before .args in
     let mem = now (a .mem) in
     let W = workerIn mem in
-    c .tag .ensures
+    let found = rw (c .before .board-of .ensures .1) at (c .tag .ensures) in
+    found
     ∙ ap (λ (e : Engine). tagFound (W .board) (e .count) (a .tag)) (c .before .before .head-of .ensures)
-    ∙ sym (own mem (tagFound (W .board) (W .head .count) (a .tag)) (noLook notAnEngine) (c .before .before .before .if1 .left))
+    ∙ sym (own mem (tagFound (W .board) (W .head .count) (a .tag)) (noLook notAnEngine) (sym (c .before .before .before .before .size-check .ensures) ∙ c .before .before .before .if1 .left))
 
 pub wz-tag-spec : {M : Type 1} → statement M
 wz-tag-spec =
     tie.close
     (tie.spec
+    size-check-requires
     cast-no-look
     no-look-requires
     returns
     head-of-requires
-    sub-tag
-    part-tag-start
-    part-tag-end
+    board-of-requires
     tag-requires
     returns-2)

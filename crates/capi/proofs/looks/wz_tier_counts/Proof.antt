@@ -9,6 +9,9 @@ use borrow.Author.Needs.{needs}
 use Rattle.capi.proofs.looks.wz_tier_counts.Statement.{statement}
 use Rattle.capi.proofs.looks.wz_tier_counts.Tie as tie
 
+size-check-requires : tie.Need-size-check-requires
+size-check-requires c κs = search needs
+
 cast-no-counts : tie.Need-cast-no-counts
 cast-no-counts c = search needs
 
@@ -18,17 +21,11 @@ no-counts-requires c κs = search needs
 returns : tie.Need-returns
 unfolding countsLook
 returns c =
-    let mem = now (c .before .before .before .args .mem) in
-    c .no-counts .ensures ∙ sym (alien mem (countsOf (workerIn mem .board)) (noCounts notAnEngine) (c .before .if1 .taken))
+    let mem = now (c .before .before .before .before .args .mem) in
+    c .no-counts .ensures ∙ sym (alien mem (countsOf (workerIn mem .board)) (noCounts notAnEngine) (λ g. c .before .if1 .taken (c .before .before .size-check .ensures ∙ g)))
 
-sub-counts-of : tie.Need-sub-counts-of
-sub-counts-of c = search needs
-
-part-counts-of-start : tie.Need-part-counts-of-start
-part-counts-of-start c = search needs
-
-part-counts-of-end : tie.Need-part-counts-of-end
-part-counts-of-end c = search needs
+board-of-requires : tie.Need-board-of-requires
+board-of-requires c κs = search needs
 
 counts-of-requires : tie.Need-counts-of-requires
 counts-of-requires c κs = search needs
@@ -36,18 +33,18 @@ counts-of-requires c κs = search needs
 returns-2 : tie.Need-returns-2
 unfolding countsLook workerIn
 returns-2 c =
-    let mem = now (c .before .before .before .before .args .mem) in
-    c .counts-of .ensures ∙ sym (own mem (countsOf (workerIn mem .board)) (noCounts notAnEngine) (c .before .before .if1 .left))
+    let mem = now (c .before .before .before .before .before .args .mem) in
+    let found = rw (c .before .board-of .ensures .1) at (c .counts-of .ensures) in
+    found ∙ sym (own mem (countsOf (workerIn mem .board)) (noCounts notAnEngine) (sym (c .before .before .before .size-check .ensures) ∙ c .before .before .if1 .left))
 
 pub wz-tier-counts-spec : {M : Type 1} → statement M
 wz-tier-counts-spec =
     tie.close
     (tie.spec
+    size-check-requires
     cast-no-counts
     no-counts-requires
     returns
-    sub-counts-of
-    part-counts-of-start
-    part-counts-of-end
+    board-of-requires
     counts-of-requires
     returns-2)

@@ -5,21 +5,21 @@ use denote.Ref.{now}
 use Rattle.board.specs.Board.{Board}
 use Rattle.replies.specs.Worker.{worker}
 use Rattle.capi.specs.Memory.{workerIn}
-use Rattle.capi.proofs.Laws.{board-put}
+use Rattle.capi.proofs.Laws.{board-put, engine-room, engine-board}
 use Rattle.capi.proofs.whole.load_panel.Statement.{statement}
 use Rattle.capi.proofs.whole.load_panel.Tie as tie
 
 sub-load-panel : tie.Need-sub-load-panel
-sub-load-panel c = search needs
+sub-load-panel c = search (needs, engine-room (now (c .before .before .args .mem)) (c .before .before .pre))
 
 part-load-panel-start : tie.Need-part-load-panel-start
-part-load-panel-start c = search needs
+part-load-panel-start c = search (needs, engine-room (now (c .before .before .args .mem)) (c .before .before .pre))
 
 part-load-panel-end : tie.Need-part-load-panel-end
-part-load-panel-end c = search needs
+part-load-panel-end c = search (needs, engine-room (now (c .before .before .args .mem)) (c .before .before .pre))
 
 load-panel-requires : tie.Need-load-panel-requires
-load-panel-requires c κs = search needs
+load-panel-requires c κs = engine-board (now (c .before .before .before .args .mem)) (c .before .before .before .pre)
 
 same-length : tie.Need-same-length
 same-length c = search needs
@@ -30,7 +30,7 @@ returns c =
     let s = c .before .before .before .before .before .before in
     let f = c .before .before .load-panel in
     let bs = now (s .args .mem) in
-    board-put bs (f .last .0) (s .pre) (f .kept .0) ∙ ap (λ (B : Board). worker (workerIn bs .head) B) (f .ensures)
+    board-put bs (f .last .0) (s .pre) (f .kept .0) ∙ ap (λ (B : Board). worker (workerIn bs .head) B) (f .ensures .board)
 
 pub load-panel-spec : {M : Type 1} → statement M
 load-panel-spec =

@@ -2,18 +2,18 @@
 use borrow.Author.Needs.{needs}
 use denote.Ref.{now}
 use Rattle.capi.specs.Memory.{workerIn}
-use Rattle.capi.proofs.Laws.{head-put}
+use Rattle.capi.proofs.Laws.{head-put, engine-room}
 use Rattle.capi.proofs.whole.put_clock.Statement.{statement}
 use Rattle.capi.proofs.whole.put_clock.Tie as tie
 
 sub-put-clock : tie.Need-sub-put-clock
-sub-put-clock c = search needs
+sub-put-clock c = search (needs, engine-room (now (c .before .args .mem)) (c .before .pre))
 
 part-put-clock-start : tie.Need-part-put-clock-start
-part-put-clock-start c = search needs
+part-put-clock-start c = search (needs, engine-room (now (c .before .args .mem)) (c .before .pre))
 
 part-put-clock-end : tie.Need-part-put-clock-end
-part-put-clock-end c = search needs
+part-put-clock-end c = search (needs, engine-room (now (c .before .args .mem)) (c .before .pre))
 
 put-clock-requires : tie.Need-put-clock-requires
 put-clock-requires c κs = search needs

@@ -2,18 +2,18 @@
 use borrow.Author.Needs.{needs}
 use denote.Ref.{now}
 use Rattle.capi.specs.Memory.{workerIn}
-use Rattle.capi.proofs.Laws.{head-put}
+use Rattle.capi.proofs.Laws.{head-put, engine-room}
 use Rattle.capi.proofs.whole.put_head.Statement.{statement}
 use Rattle.capi.proofs.whole.put_head.Tie as tie
 
 sub-store : tie.Need-sub-store
-sub-store c = search needs
+sub-store c = search (needs, engine-room (now (c .before .args .mem)) (c .before .pre))
 
 part-store-start : tie.Need-part-store-start
-part-store-start c = search needs
+part-store-start c = search (needs, engine-room (now (c .before .args .mem)) (c .before .pre))
 
 part-store-end : tie.Need-part-store-end
-part-store-end c = search needs
+part-store-end c = search (needs, engine-room (now (c .before .args .mem)) (c .before .pre))
 
 store-requires : tie.Need-store-requires
 store-requires c κs = search needs

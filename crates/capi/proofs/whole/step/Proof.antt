@@ -9,21 +9,22 @@ use Rattle.replies.specs.Worker.{At, at, worker}
 use Rattle.worker.specs.Answers.{answer, step}
 use Rattle.capi.specs.Memory.{workerIn}
 use Rattle.capi.proofs.CallLaws.{step-put}
+use Rattle.capi.proofs.Laws.{engine-room, engine-board}
 use borrow.Author.Needs.{needs}
 use Rattle.capi.proofs.whole.step.Statement.{statement}
 use Rattle.capi.proofs.whole.step.Tie as tie
 
 sub-step : tie.Need-sub-step
-sub-step c = search needs
+sub-step c = search (needs, engine-room (now (c .before .before .before .args .mem)) (c .before .before .before .pre))
 
 part-step-start : tie.Need-part-step-start
-part-step-start c = search needs
+part-step-start c = search (needs, engine-room (now (c .before .before .before .args .mem)) (c .before .before .before .pre))
 
 part-step-end : tie.Need-part-step-end
-part-step-end c = search needs
+part-step-end c = search (needs, engine-room (now (c .before .before .before .args .mem)) (c .before .before .before .pre))
 
 step-requires : tie.Need-step-requires
-step-requires c κs = search needs
+step-requires c κs = engine-board (now (c .before .before .before .before .before .args .mem)) (c .before .before .before .before .before .pre)
 
 same-length : tie.Need-same-length
 same-length c = search needs

@@ -28,22 +28,22 @@ returns-2 : tie.Need-returns-2
 unfolding loadCheck
 returns-2 c = first-passed _ _ _ _ (c .before .before .before .before .clock-check .ensures _) (c .before .before .before .if1 .left) (first-refused _ _ _ (c .before .check-panel .ensures) (c .if2 .taken))
 
-in-tiers-requires : tie.Need-in-tiers-requires
-in-tiers-requires c κs = search needs
+order-count-requires : tie.Need-order-count-requires
+order-count-requires c κs = search needs
 
 returns-3 : tie.Need-returns-3
 unfolding loadCheck
 returns-3 c =
     let order = boardIn (now (c .before .before .before .before .before .before .before .before .before .args .board)) .table .order in
     first-passed _ _ _ _ (c .before .before .before .before .before .before .clock-check .ensures _) (c .before .before .before .before .before .if1 .left)
-    (first-passed _ _ _ _ (c .before .before .before .check-panel .ensures) (c .before .before .if2 .left) (none-in-tiers order (sym (c .before .in-tiers .ensures) ∙ c .if3 .taken)))
+    (first-passed _ _ _ _ (c .before .before .before .check-panel .ensures) (c .before .before .if2 .left) (none-in-tiers order (sym (c .before .order-count .ensures) ∙ c .if3 .taken)))
 
 returns-4 : tie.Need-returns-4
 unfolding loadCheck
 returns-4 c =
     let order = boardIn (now (c .before .before .before .before .before .before .before .before .before .args .board)) .table .order in
     first-passed _ _ _ _ (c .before .before .before .before .before .before .clock-check .ensures _) (c .before .before .before .before .before .if1 .left)
-    (first-passed _ _ _ _ (c .before .before .before .check-panel .ensures) (c .before .before .if2 .left) (some-in-tiers order (λ e. c .if3 .left (c .before .in-tiers .ensures ∙ e))))
+    (first-passed _ _ _ _ (c .before .before .before .check-panel .ensures) (c .before .before .if2 .left) (some-in-tiers order (λ e. c .if3 .left (c .before .order-count .ensures ∙ e))))
 
 pub load-check-spec : {M : Type 1} → statement M
 load-check-spec =
@@ -55,6 +55,6 @@ load-check-spec =
     check-panel-requires
     cast-result
     returns-2
-    in-tiers-requires
+    order-count-requires
     returns-3
     returns-4)

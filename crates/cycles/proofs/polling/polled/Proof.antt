@@ -1,6 +1,7 @@
 -- `cycles::polling::polled` meets its contract.
 use mathlib.Core.Path.{_≡_, ap, sym, _∙_, subst}
 use mathlib.Core.Bool.{Bool, true, false, cond, false≢true}
+use mathlib.Core.List.{List}
 use denote.Ref.{now}
 use lib.IntN.{ℤ}
 use mir.Val.{SFits}
@@ -10,7 +11,7 @@ use Rattle.board.specs.Board.{Board, boardIn}
 use Prim.Native.Nat.{ℕ}
 use lib.Ieee.{Float}
 use lib.ListN.{length}
-use Rattle.lent.specs.Lent.{wroteAll}
+use Rattle.lent.specs.Lent.{tagBytes, wroteAll}
 use Rattle.heads.specs.Progress.{withRound}
 use Rattle.heads.specs.declared.progress.Phase.the-variants.{Read}
 use Rattle.engine.specs.Engine.{withCycle, withProgress}
@@ -27,8 +28,8 @@ use borrow.Author.Needs.{needs}
 use Rattle.cycles.proofs.polling.polled.Statement.{statement}
 use Rattle.cycles.proofs.polling.polled.Tie as tie
 
-poll-requires : tie.Need-poll-requires
-poll-requires c κs = search needs
+cycle-tags-requires : tie.Need-cycle-tags-requires
+cycle-tags-requires c κs = search needs
 
 with-round-requires : tie.Need-with-round-requires
 with-round-requires c κs = search needs
@@ -43,7 +44,7 @@ asked-count-requires : tie.Need-asked-count-requires
 asked-count-requires c κs = search needs
 
 reading-requires : tie.Need-reading-requires
-reading-requires c κs = c .before .before .before .before .before .before .before .before .before .before .poll .kept .0 ∙ c .before .before .before .before .before .before .before .before .before .before .before .before .before .before .pre
+reading-requires c κs = c .before .before .before .before .before .before .before .before .before .before .cycle-tags .ensures .holds .still
 
 same-length : tie.Need-same-length
 same-length c = search needs
@@ -59,7 +60,7 @@ returns c =
     let W = worker (a .e) B in
     let t = at (a .clock) (a .wall) in
     let R = roundAt W t in
-    let p = c .before .before .before .before .before .before .before .before .before .before .before .before .before .before .before .poll in
+    let p = c .before .before .before .before .before .before .before .before .before .before .before .before .before .before .before .cycle-tags in
     let cycled = withCycle (a .e) (R .after .cycle) in
     let round = withRound (a .e .progress) (a .clock) (R .tick) (R .boundary) in
     let next : c .before .before .before .before .before .before .before .before .before .before .with-progress .result ≡ withProgress cycled round =
@@ -69,10 +70,10 @@ returns c =
     ∙ (ap (λ (x : Float). withRound (a .e .progress) (a .clock) x (p .result .boundary)) (p .ensures .tick-is) ∙ ap (withRound (a .e .progress) (a .clock) (R .tick)) (p .ensures .boundary-is)))) in
     let after = withWorked W t R in
     let left : worker (c .before .before .before .before .before .before .before .before .before .before .with-progress .result) (boardIn (p .last .0)) ≡ after =
-    ap (λ (e : Engine). worker e (boardIn (p .last .0))) next ∙ ap (worker (withProgress cycled round)) (p .ensures .board-is) in
-    let asked : boardIn (p .last .0) .asked ≡ R .list = ap (λ (X : Board). X .asked) (p .ensures .board-is) in
+    ap (λ (e : Engine). worker e (boardIn (p .last .0))) next ∙ ap (worker (withProgress cycled round)) (p .ensures .holds .board) in
+    let asked : boardIn (p .last .0) .asked ≡ R .list = ap (λ (X : Board). X .asked) (p .ensures .holds .board) in
     let count : c .before .before .before .before .before .before .before .before .asked-count .result ≡ length (R .list) = c .before .before .before .before .before .before .before .before .asked-count .ensures ∙ ap (length {A = ℕ}) asked in
-    let told = tell (phased after Read) (reply.read (length (R .list))) (R .list) in
+    let told = tell (phased after Read) (reply.read (length (R .list))) (tagBytes (R .list)) in
     let fit : SFits w64 (a .wall) = c .before .before .before .before .before .before .before .before .before .before .before .before .before .before .before .before .before .before .before .fits .wall in
     let so-far = worker (c .before .before .before .before .before .before .before .before .before .before .with-progress .result) (boardIn (p .last .0)) in
     let y = c .before .before .before .before .reading in
@@ -84,7 +85,7 @@ returns c =
     (subst (λ (z : ℤ). Done (reading so-far (at (a .clock) z)) (y .result) (y .last .0) (now (a .out)) (y .last .1 .0)) (toZ-ofZ fit) (y .ensures)))
 
 put-asked-requires : tie.Need-put-asked-requires
-put-asked-requires c κs = c .before .before .before .before .before .before .before .before .before .before .poll .kept .0 ∙ c .before .before .before .before .before .before .before .before .before .before .before .before .before .before .pre
+put-asked-requires c κs = c .before .before .before .before .before .before .before .before .before .before .cycle-tags .ensures .holds .still
 
 listed-requires : tie.Need-listed-requires
 listed-requires c κs = search needs
@@ -93,7 +94,7 @@ phased-requires : tie.Need-phased-requires
 phased-requires c κs = search needs
 
 same-length-3 : tie.Need-same-length-3
-same-length-3 c = c .before .before .before .before .before .before .before .before .before .before .before .before .before .before .before .poll .kept .0
+same-length-3 c = c .before .before .before .before .before .before .before .before .before .before .before .before .before .before .before .cycle-tags .kept .0
 
 same-length-4 : tie.Need-same-length-4
 same-length-4 c = search needs
@@ -106,7 +107,7 @@ returns-2 c =
     let W = worker (a .e) B in
     let t = at (a .clock) (a .wall) in
     let R = roundAt W t in
-    let p = c .before .before .before .before .before .before .before .before .before .before .before .before .before .before .before .poll in
+    let p = c .before .before .before .before .before .before .before .before .before .before .before .before .before .before .before .cycle-tags in
     let cycled = withCycle (a .e) (R .after .cycle) in
     let round = withRound (a .e .progress) (a .clock) (R .tick) (R .boundary) in
     let next : c .before .before .before .before .before .before .before .before .before .before .with-progress .result ≡ withProgress cycled round =
@@ -116,10 +117,10 @@ returns-2 c =
     ∙ (ap (λ (x : Float). withRound (a .e .progress) (a .clock) x (p .result .boundary)) (p .ensures .tick-is) ∙ ap (withRound (a .e .progress) (a .clock) (R .tick)) (p .ensures .boundary-is)))) in
     let after = withWorked W t R in
     let left : worker (c .before .before .before .before .before .before .before .before .before .before .with-progress .result) (boardIn (p .last .0)) ≡ after =
-    ap (λ (e : Engine). worker e (boardIn (p .last .0))) next ∙ ap (worker (withProgress cycled round)) (p .ensures .board-is) in
-    let asked : boardIn (p .last .0) .asked ≡ R .list = ap (λ (X : Board). X .asked) (p .ensures .board-is) in
+    ap (λ (e : Engine). worker e (boardIn (p .last .0))) next ∙ ap (worker (withProgress cycled round)) (p .ensures .holds .board) in
+    let asked : boardIn (p .last .0) .asked ≡ R .list = ap (λ (X : Board). X .asked) (p .ensures .holds .board) in
     let count : c .before .before .before .before .before .before .before .before .asked-count .result ≡ length (R .list) = c .before .before .before .before .before .before .before .before .asked-count .ensures ∙ ap (length {A = ℕ}) asked in
-    let told = tell (phased after Read) (reply.read (length (R .list))) (R .list) in
+    let told = tell (phased after Read) (reply.read (length (R .list))) (tagBytes (R .list)) in
     let q = c .before .before .before .before .put-asked in
     let test : isEmpty (R .list) ≡ false = some-is {A = ℕ} (R .list) (λ e. c .before .before .before .before .before .before .before .if1 .left (count ∙ e)) in
     let inner = cond (isEmpty (R .list)) (reading after t) told in
@@ -127,9 +128,9 @@ returns-2 c =
     (done-is told inner (c .phased .result) (p .last .0) (now (a .out)) (q .last .1 .0) (sym (ap (λ (b : Bool). cond b (reading after t) told) test))
     (record {
       head-is = ap (λ (s : Said). s .head) (c .phased .ensures) ∙ ap (λ (e : Engine). saidIn e Read (c .before .listed .result) .head) next;
-      board-is = p .ensures .board-is;
+      board-is = p .ensures .holds .board;
       reply-is = ap (λ (s : Said). s .reply) (c .phased .ensures) ∙ (c .before .listed .ensures ∙ ap reply.read (q .ensures .0 ∙ ap (length {A = ℕ}) asked));
-      out-is = q .ensures .1 ∙ ap (wroteAll (now (a .out))) asked;
+      out-is = q .ensures .1 ∙ ap (λ (l : List ℕ). wroteAll (now (a .out)) (tagBytes l)) asked;
       silent = λ h. absurd (false≢true h);
     }))
 
@@ -137,7 +138,7 @@ pub polled-spec : {M : Type 1} → statement M
 polled-spec =
     tie.close
     (tie.spec
-    poll-requires
+    cycle-tags-requires
     with-round-requires
     with-cycle-requires
     with-progress-requires

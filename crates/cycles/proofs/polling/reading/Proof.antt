@@ -1,16 +1,17 @@
 -- `cycles::polling::reading` meets its contract.
 use mathlib.Core.Path.{_≡_, ap, sym, _∙_, subst}
 use mathlib.Core.Bool.{Bool, true, false, cond, false≢true}
+use mathlib.Core.List.{List}
 use denote.Ref.{now}
 use lib.IntN.{ℤ}
 use mir.Val.{SFits}
 use mir.Syntax.{w64}
 use mir.Facts.{toZ-ofZ}
 use Rattle.board.specs.Board.{Board, boardIn}
-use Rattle.talks.specs.Talks.{describing}
+use Rattle.descriptions.specs.Descriptions.{describing}
 use Prim.Native.Nat.{ℕ}
 use lib.ListN.{length}
-use Rattle.lent.specs.Lent.{wroteAll}
+use Rattle.lent.specs.Lent.{tagBytes, wroteAll}
 use Rattle.heads.specs.Stats.{readStats}
 use Rattle.heads.specs.declared.progress.Phase.the-variants.{Describe}
 use Rattle.engine.specs.Engine.{withStats}
@@ -63,11 +64,11 @@ returns c =
     let next : c .before .before .before .before .before .before .before .before .before .before .before .before .before .before .with-stats .result ≡ withStats (a .e) stats =
     c .before .before .before .before .before .before .before .before .before .before .before .before .before .before .with-stats .ensures ∙ ap (withStats (a .e)) (c .before .before .before .before .before .before .before .before .before .before .before .before .before .before .before .read-stats .ensures ∙ ap (readStats (a .e .stats)) (c .before .before .before .before .before .before .before .before .before .before .before .before .before .before .before .before .asked-count .ensures)) in
     let left : worker (c .before .before .before .before .before .before .before .before .before .before .before .before .before .before .with-stats .result) (boardIn (d .last .0)) ≡ worker (withStats (a .e) stats) D =
-    ap (λ (e : Engine). worker e (boardIn (d .last .0))) next ∙ ap (worker (withStats (a .e) stats)) (d .ensures) in
-    let asked : boardIn (d .last .0) .asked ≡ D .asked = ap (λ (X : Board). X .asked) (d .ensures) in
+    ap (λ (e : Engine). worker e (boardIn (d .last .0))) next ∙ ap (worker (withStats (a .e) stats)) (d .ensures .board) in
+    let asked : boardIn (d .last .0) .asked ≡ D .asked = ap (λ (X : Board). X .asked) (d .ensures .board) in
     let count : c .before .before .before .before .before .before .before .before .asked-count2 .result ≡ length (D .asked) = c .before .before .before .before .before .before .before .before .asked-count2 .ensures ∙ ap (length {A = ℕ}) asked in
     let after = worker (withStats (a .e) stats) D in
-    let told = tell (phased after Describe) (reply.describe (length (D .asked))) (D .asked) in
+    let told = tell (phased after Describe) (reply.describe (length (D .asked))) (tagBytes (D .asked)) in
     let fit : SFits w64 (a .wall) = c .before .before .before .before .before .before .before .before .before .before .before .before .before .before .before .before .before .before .before .before .fits .wall in
     let y = c .before .before .before .before .checking in
     let test : isEmpty (D .asked) ≡ true = empty-is {A = ℕ} (D .asked) (sym count ∙ c .before .before .before .before .before .before .before .if1 .taken) in
@@ -104,19 +105,19 @@ returns-2 c =
     let next : c .before .before .before .before .before .before .before .before .before .before .before .before .before .before .with-stats .result ≡ withStats (a .e) stats =
     c .before .before .before .before .before .before .before .before .before .before .before .before .before .before .with-stats .ensures ∙ ap (withStats (a .e)) (c .before .before .before .before .before .before .before .before .before .before .before .before .before .before .before .read-stats .ensures ∙ ap (readStats (a .e .stats)) (c .before .before .before .before .before .before .before .before .before .before .before .before .before .before .before .before .asked-count .ensures)) in
     let left : worker (c .before .before .before .before .before .before .before .before .before .before .before .before .before .before .with-stats .result) (boardIn (d .last .0)) ≡ worker (withStats (a .e) stats) D =
-    ap (λ (e : Engine). worker e (boardIn (d .last .0))) next ∙ ap (worker (withStats (a .e) stats)) (d .ensures) in
-    let asked : boardIn (d .last .0) .asked ≡ D .asked = ap (λ (X : Board). X .asked) (d .ensures) in
+    ap (λ (e : Engine). worker e (boardIn (d .last .0))) next ∙ ap (worker (withStats (a .e) stats)) (d .ensures .board) in
+    let asked : boardIn (d .last .0) .asked ≡ D .asked = ap (λ (X : Board). X .asked) (d .ensures .board) in
     let count : c .before .before .before .before .before .before .before .before .asked-count2 .result ≡ length (D .asked) = c .before .before .before .before .before .before .before .before .asked-count2 .ensures ∙ ap (length {A = ℕ}) asked in
     let after = worker (withStats (a .e) stats) D in
-    let told = tell (phased after Describe) (reply.describe (length (D .asked))) (D .asked) in
+    let told = tell (phased after Describe) (reply.describe (length (D .asked))) (tagBytes (D .asked)) in
     let p = c .before .before .before .before .put-asked in
     let test : isEmpty (D .asked) ≡ false = some-is {A = ℕ} (D .asked) (λ e. c .before .before .before .before .before .before .before .if1 .left (count ∙ e)) in
     done-is told (reading W t) (c .phased .result) (d .last .0) (now (a .out)) (p .last .1 .0) (sym (ap (λ (b : Bool). cond b (checking after t) told) test))
     (record {
       head-is = ap (λ (s : Said). s .head) (c .phased .ensures) ∙ ap (λ (e : Engine). saidIn e Describe (c .before .listed .result) .head) next;
-      board-is = d .ensures;
+      board-is = d .ensures .board;
       reply-is = ap (λ (s : Said). s .reply) (c .phased .ensures) ∙ (c .before .listed .ensures ∙ ap reply.describe (p .ensures .0 ∙ ap (length {A = ℕ}) asked));
-      out-is = p .ensures .1 ∙ ap (wroteAll (now (a .out))) asked;
+      out-is = p .ensures .1 ∙ ap (λ (l : List ℕ). wroteAll (now (a .out)) (tagBytes l)) asked;
       silent = λ h. absurd (false≢true h);
     })
 

@@ -6,8 +6,8 @@ use mir.Val.{SFits}
 use mir.Syntax.{w64}
 use mir.Facts.{toZ-ofZ}
 use Rattle.board.specs.Board.{Board, boardIn}
-use Rattle.writes.specs.Queue.{popped}
-use Rattle.writes.specs.declared.queue.Popped.the-variants.{Nothing, Is}
+use Rattle.queue.specs.Queue.{popped}
+use Rattle.queue.specs.declared.Popped.the-variants.{Nothing, Is}
 use Rattle.replies.specs.Worker.{worker, at, Done}
 use Rattle.replies.proofs.DoneLaws.{done-is, wrote-nothing}
 use Rattle.cycles.specs.Polling.{resume, writingOf, writing}
@@ -45,7 +45,7 @@ returns c =
     let p = c .before .before .before .before .before .before .before .before .before .before .before .pop-write in
     let y = c .before .before .before .before .resume in
     let none : popped (B .queue) ≡ Nothing = sym (p .ensures .0) ∙ c .before .before .before .before .before .before .before .enum-told .given .1 in
-    let same : boardIn (p .last .0) ≡ B = p .ensures .1 ∙ none-popped B none in
+    let same : boardIn (p .last .0) ≡ B = p .ensures .1 .board ∙ none-popped B none in
     let next = worker (a .e) (boardIn (p .last .0)) in
     done-is (resume next t (a .after)) (writing W t (a .after)) (y .result) (y .last .0) (now (a .out)) (y .last .1 .0)
     (ap (λ (X : Board). resume (worker (a .e) X) t (a .after)) same ∙ sym (ap (writingOf W t (a .after)) none))
@@ -76,7 +76,7 @@ returns-2 c =
     done-is (writingOf W t (a .after) (Is w)) (writing W t (a .after)) _ (p .last .0) (now (a .out)) (now (a .out)) (sym (ap (writingOf W t (a .after)) one))
     (record {
       head-is = simp (c .with-progress .ensures, c .before .with-writing .ensures);
-      board-is = p .ensures .1;
+      board-is = p .ensures .1 .board;
       reply-is = c .before .before .write .ensures;
       out-is = sym (wrote-nothing (now (a .out)));
       silent = λ h. refl;

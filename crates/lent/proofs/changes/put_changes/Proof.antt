@@ -8,16 +8,16 @@ use lib.ListN.{length, take}
 use lib.Seq.{take-all}
 use Rattle.tags.specs.Lists.{listIn}
 use Rattle.table.specs.Table.{tableIn}
-use Rattle.lent.specs.Lent.{wroteCells, recordPut, records}
+use Rattle.lent.specs.Lent.{cellBytes, overBytes, recordPut, records}
 use Rattle.lent.specs.Changes.{changeCells}
-use Rattle.lent.proofs.LentLaws.{all-fits, all-kept, records-none, length-records, put-nth}
+use Rattle.lent.proofs.LentLaws.{cells-fit, cells-left, records-none, length-records, put-nth}
 use borrow.Author.Needs.{needs}
 use Rattle.lent.proofs.changes.put_changes.Statement.{statement}
 use Rattle.lent.proofs.changes.put_changes.Tie as tie
 
 abbrev Inv-loop : tie.InvT-loop
 Inv-loop out₀ table list n i₀ out i =
-    (i ≤ n) × ((length out ≡ length out₀) × (out ≡ wroteCells out₀ (records (changeCells (tableIn table)) (take i (listIn list)))))
+    (i ≤ n) × ((length out ≡ length out₀) × (out ≡ overBytes out₀ (cellBytes (records (changeCells (tableIn table)) (take i (listIn list))))))
 
 abbrev μ-loop : tie.MeasureT-loop
 μ-loop out₀ table list n i₀ out i = n - i
@@ -30,7 +30,7 @@ returns c =
     let a = c .before .before .before .before .before .args in
     let f = changeCells (tableIn (now (a .table))) in
     let xs = listIn (now (a .list)) in
-    sym (all-kept (now (a .out)) (records f xs) (omega (arith, length-records f 7 (λ k. refl) xs)))
+    sym (cells-left (now (a .out)) (records f xs) (omega (arith, length-records f 9 (λ k. refl) xs)))
 
 loop-holds : tie.Need-loop-holds Inv-loop μ-loop
 loop-holds c =
@@ -67,9 +67,9 @@ loop-again c =
       (
         put .kept .0 ∙ l .inv .1 .0,
         put .ensures
-            ∙ ap (λ (o : List ℕ). recordPut o (7 * i) (f (k .result))) (l .inv .1 .1)
-            ∙ ap (λ (k : ℕ). recordPut (wroteCells out (records f (take i xs))) (7 * i) (f k)) (k .ensures)
-            ∙ put-nth f 7 (λ k. refl) out xs i 0 (omega arith) (omega arith),
+            ∙ ap (λ (o : List ℕ). recordPut o (9 * i) (f (k .result))) (l .inv .1 .1)
+            ∙ ap (λ (k : ℕ). recordPut (overBytes out (cellBytes (records f (take i xs)))) (9 * i) (f k)) (k .ensures)
+            ∙ put-nth f 9 (λ k. refl) out xs i 0 (omega arith) (omega arith),
       ),
     )
 
@@ -84,8 +84,8 @@ returns-2 c =
     let f = changeCells (tableIn (now (a .table))) in
     let xs = listIn (now (a .list)) in
     l .inv .1 .1
-    ∙ ap (λ (ks : List ℕ). wroteCells (now (a .out)) (records f ks)) (take-all (l .i) xs (omega arith))
-    ∙ sym (all-fits (now (a .out)) (records f xs) (omega (arith, length-records f 7 (λ k. refl) xs)))
+    ∙ ap (λ (ks : List ℕ). overBytes (now (a .out)) (cellBytes (records f ks))) (take-all (l .i) xs (omega arith))
+    ∙ sym (cells-fit (now (a .out)) (records f xs) (omega (arith, length-records f 9 (λ k. refl) xs)))
 
 pub put-changes-spec : {M : Type 1} → statement M
 put-changes-spec =

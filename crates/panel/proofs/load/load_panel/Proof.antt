@@ -5,25 +5,27 @@ use native.Mathlib.Omega.{arith}
 use borrow.Author.Needs.{needs}
 use denote.Ref.{now}
 use lib.ListN.{length, drop}
+use Rattle.board.specs.Layout.{IsBoard}
+use Rattle.board.specs.Board.{Table, Board, boardIn, withTable}
+use Rattle.tiers.specs.Tiers.{setTier}
 use Rattle.panel.proofs.PanelLaws.{tiers-fewer, load-more, load-end}
-use Rattle.tiers.specs.Tiers.{Table, tabled, setTier}
 use Rattle.panel.specs.Panel.{tagsOf, tiersOf, loaded, loadedList}
 use Rattle.panel.proofs.load.load_panel.Statement.{statement}
 use Rattle.panel.proofs.load.load_panel.Tie as tie
 
 abbrev Inv-loop : tie.InvT-loop
-Inv-loop t₀ order₀ graces₀ words list grace clock n i₀ t order graces i =
-    (i ≤ n) × ((length t ≡ length t₀) × ((length order ≡ length order₀) × ((length graces ≡ length graces₀)
-    × (loadedList (tabled t₀ order₀ graces₀ words) list grace clock ≡ loaded (tabled t order graces words) (drop i (tagsOf list)) (drop i (tiersOf list)) grace clock))))
+Inv-loop b₀ list grace clock n i₀ b i =
+    (i ≤ n) × (IsBoard b × ((length b ≡ length b₀)
+    × (withTable (boardIn b₀) (loadedList (boardIn b₀ .table) list grace clock) ≡ withTable (boardIn b) (loaded (boardIn b .table) (drop i (tagsOf list)) (drop i (tiersOf list)) grace clock))))
 
 abbrev μ-loop : tie.MeasureT-loop
-μ-loop t₀ order₀ graces₀ words list grace clock n i₀ t order graces i = n - i
+μ-loop b₀ list grace clock n i₀ b i = n - i
 
 entries-requires : tie.Need-entries-requires Inv-loop μ-loop
 entries-requires c κs = search needs
 
 loop-holds : tie.Need-loop-holds Inv-loop μ-loop
-loop-holds c = (omega arith, (refl, (refl, (refl, refl))))
+loop-holds c = (omega arith, (c .before .before .before .pre, (refl, refl)))
 
 tag-at-requires : tie.Need-tag-at-requires Inv-loop μ-loop
 tag-at-requires c κs = search needs
@@ -45,44 +47,39 @@ loop-less c = omega arith
 
 loop-again : tie.Need-loop-again Inv-loop μ-loop
 loop-again c =
-    let a = c .before .before .before .before .before .before .before .before .before .before .before .before .before .before .before .before .before .before .before .before .args in
-    let l = c .before .before .before .before .before .before .before .before .before .before .before .before .before .loop in
-    let s = c .before .before .before .before .before .before .set-tier in
+    let a = c .before .before .before .before .before .before .before .before .before .before .before .args in
+    let l = c .before .before .before .before .before .before .before .loop in
+    let s = c .before .before .set-tier in
     let list = now (a .list) in
     let tags = tagsOf list in
     let tiers = tiersOf list in
-    let T = tabled (l .t) (l .order) (l .graces) (now (a .words)) in
-    let call = s .ensures ∙ ap₂ (λ (k tier : ℕ). setTier T k tier (a .grace) (a .clock)) (c .before .before .before .before .before .before .before .before .before .before .before .tag-at .ensures) (c .before .before .before .before .before .before .before .before .before .before .tier-at .ensures) in (
+    let B = boardIn (l .b) in
+    let call = s .ensures .board ∙ ap₂ (λ (k tier : ℕ). withTable B (setTier (B .table) k tier (a .grace) (a .clock))) (c .before .before .before .before .before .tag-at .ensures) (c .before .before .before .before .tier-at .ensures) in (
       omega arith,
       (
-        s .kept .0 ∙ l .inv .1 .0,
+        s .ensures .still,
         (
-          s .kept .1 .0 ∙ l .inv .1 .1 .0,
-          (
-            s .kept .1 .1 .0 ∙ l .inv .1 .1 .1 .0,
-            l .inv .1 .1 .1 .1
-                ∙ load-more T tags tiers (a .grace) (a .clock) (l .i) (omega (arith, tiers-fewer list)) (omega arith)
-                ∙ ap (λ (X : Table). loaded X (drop (l .i + 1) tags) (drop (l .i + 1) tiers) (a .grace) (a .clock)) (sym call),
-          ),
+          s .kept .0 ∙ l .inv .1 .1 .0,
+          l .inv .1 .1 .1
+              ∙ ap (λ (T : Table). withTable B T) (load-more (B .table) tags tiers (a .grace) (a .clock) (l .i) (omega (arith, tiers-fewer list)) (omega arith))
+              ∙ ap (λ (X : Board). withTable X (loaded (X .table) (drop (l .i + 1) tags) (drop (l .i + 1) tiers) (a .grace) (a .clock))) (sym call),
         ),
       ),
     )
 
 same-length : tie.Need-same-length Inv-loop μ-loop
-same-length c = c .before .loop .inv .1 .0
-
-same-length-2 : tie.Need-same-length-2 Inv-loop μ-loop
-same-length-2 c = c .before .loop .inv .1 .1 .0
-
-same-length-3 : tie.Need-same-length-3 Inv-loop μ-loop
-same-length-3 c = c .before .loop .inv .1 .1 .1 .0
+same-length c = c .before .loop .inv .1 .1 .0
 
 returns : tie.Need-returns Inv-loop μ-loop
 returns c =
-    let a = c .before .before .before .before .before .before .before .before .args in
+    let a = c .before .before .before .before .before .args in
     let l = c .before .loop in
     let list = now (a .list) in
-    sym (l .inv .1 .1 .1 .1 ∙ load-end (tabled (l .t) (l .order) (l .graces) (now (a .words))) (tagsOf list) (tiersOf list) (a .grace) (a .clock) (l .i) (omega arith))
+    let B = boardIn (l .b) in
+    record {
+      still = l .inv .1 .0;
+      board = sym (l .inv .1 .1 .1 ∙ ap (λ (T : Table). withTable B T) (load-end (B .table) (tagsOf list) (tiersOf list) (a .grace) (a .clock) (l .i) (omega arith)));
+    }
 
 pub load-panel-spec : {M : Type 1} → statement M
 load-panel-spec =
@@ -100,6 +97,4 @@ load-panel-spec =
     loop-less
     loop-again
     same-length
-    same-length-2
-    same-length-3
     returns)

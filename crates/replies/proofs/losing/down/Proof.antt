@@ -2,7 +2,7 @@
 use mathlib.Core.Path.{_≡_, sym, _∙_}
 use mathlib.Core.Bool.{true, false}
 use denote.Ref.{now}
-use Rattle.writes.specs.declared.queue.Write.{Write}
+use Rattle.queue.specs.declared.Write.{Write}
 use Rattle.board.specs.Board.{boardIn}
 use Rattle.heads.specs.declared.progress.Phase.the-variants.{FailedTold}
 use Rattle.replies.specs.Worker.{worker}

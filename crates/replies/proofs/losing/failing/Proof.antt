@@ -24,7 +24,7 @@ returns c =
     let f = c .before .before .before .before .before .before .fail-writes .ensures in
     record {
       head-is = simp (c .phased .ensures);
-      board-is = f .1 .0;
+      board-is = f .1 .0 .board;
       reply-is = simp (c .phased .ensures, c .before .listed .ensures, f .0);
       out-is = f .1 .1;
       silent = λ h. absurd (false≢true h);

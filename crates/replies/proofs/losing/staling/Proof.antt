@@ -2,12 +2,12 @@
 use mathlib.Core.Path.{_≡_, ap, sym, _∙_}
 use mathlib.Core.Bool.{true, false, false≢true}
 use mathlib.Core.List.{List}
-use Rattle.lent.specs.Lent.{records, wroteAll}
+use Rattle.lent.specs.Lent.{cellBytes, records, wroteAll}
 use Prim.Native.Nat.{ℕ}
 use denote.Ref.{now}
 use lib.ListN.{length}
 use Rattle.board.specs.Board.{boardIn}
-use Rattle.polls.specs.Polls.{staledIn, changesIn}
+use Rattle.readings.specs.Changes.{staledIn, changesIn}
 use Rattle.heads.specs.declared.progress.Phase.the-variants.{StaleTold}
 use Rattle.replies.specs.Reply as reply
 use Rattle.replies.specs.Worker.{Told, worker, tell, phased}
@@ -31,7 +31,7 @@ same-length-2 : tie.Need-same-length-2
 same-length-2 c = search needs
 
 returns : tie.Need-returns
-unfolding staling records
+unfolding staling records cellBytes
 returns c =
     let a = c .before .before .before .before .before .before .before .before .before .before .before .args in
     let m = c .before .before .before .before .before .before .mark-stale in
@@ -39,9 +39,9 @@ returns c =
     let next = worker (a .e) (C .board) in
     let test : isEmpty (C .changes) ≡ true = empty-is {A = ℕ} (C .changes) (sym (m .ensures .count-is) ∙ c .before .if1 .taken) in
     let none = c .disconnected .ensures (C .board) in
-    let wrote = ap (λ (l : List ℕ). wroteAll (now (a .out)) (changesIn (C .board) l)) (no-items {A = ℕ} (C .changes) (sym (m .ensures .count-is) ∙ c .before .if1 .taken)) in
+    let wrote = ap (λ (l : List ℕ). wroteAll (now (a .out)) (cellBytes (changesIn (C .board) l))) (no-items {A = ℕ} (C .changes) (sym (m .ensures .count-is) ∙ c .before .if1 .taken)) in
     done-is (disconnected next) (staling (worker (a .e) (boardIn (now (a .board))))) _ _ _ _ (simp test)
-    (quietly-done (disconnected next) (c .disconnected .result) (C .board) (m .last .0) (now (a .out)) (m .last .1 .0) none (m .ensures .board-is) (m .ensures .out-is ∙ (wrote ∙ wrote-nothing (now (a .out)))))
+    (quietly-done (disconnected next) (c .disconnected .result) (C .board) (m .last .0) (now (a .out)) (m .last .1 .0) none (m .ensures .holds .board) (m .ensures .out-is ∙ (wrote ∙ wrote-nothing (now (a .out)))))
 
 listed-requires : tie.Need-listed-requires
 listed-requires c κs = search needs
@@ -63,11 +63,11 @@ returns-2 c =
     let C = staledIn (boardIn (now (a .board))) in
     let next = worker (a .e) (C .board) in
     let test : isEmpty (C .changes) ≡ false = some-is {A = ℕ} (C .changes) (λ e. c .before .before .if1 .left (m .ensures .count-is ∙ e)) in
-    let T : Told = tell (phased next StaleTold) (reply.values (length (C .changes))) (changesIn (C .board) (C .changes)) in
+    let T : Told = tell (phased next StaleTold) (reply.values (length (C .changes))) (cellBytes (changesIn (C .board) (C .changes))) in
     done-is T (staling (worker (a .e) (boardIn (now (a .board))))) _ _ _ _ (simp test)
     (record {
       head-is = simp (c .phased .ensures);
-      board-is = m .ensures .board-is;
+      board-is = m .ensures .holds .board;
       reply-is = simp (c .phased .ensures, c .before .listed .ensures, m .ensures .count-is);
       out-is = m .ensures .out-is;
       silent = λ h. absurd (false≢true h);

@@ -5,31 +5,36 @@ use mathlib.Core.Bool.{Bool}
 use mathlib.Core.List.{List}
 use Prim.Native.Nat.{ℕ, _+_, _≤_, _-_}
 use native.Mathlib.Omega.{arith}
-use borrow.Author.Needs.{needs}
 use denote.Ref.{now}
 use lib.ListN.{length, getD, drop}
 use Rattle.tags.specs.Lists.{listIn}
 use Rattle.table.specs.Tag.{freshTag}
-use Rattle.table.specs.Table.{tableIn}
-use Rattle.groups.specs.Groups.{Groups, grouped}
+use Rattle.groups.specs.Groups.{Groups}
+use Rattle.board.specs.Layout.{IsBoard}
+use Rattle.board.specs.Board.{Board, boardIn, tagAt, withGroups}
 use Rattle.rounds.specs.Due.{recordedDue, noneSeen}
 use Rattle.rounds.proofs.DueLaws.{recorded-yes, recorded-no, recorded-end}
+use lib.Ieee.{Float}
+use borrow.Author.Needs.{needs}
 use Rattle.rounds.proofs.due.record_due.Statement.{statement}
 use Rattle.rounds.proofs.due.record_due.Tie as tie
 
+-- the board once the tags of a list are recorded
+abbrev recorded : Board → Float → List Bool → List ℕ → Board
+recorded B clock seen list = withGroups B (recordedDue (B .table .tags) clock seen (B .groups) list)
+
 abbrev Inv-loop : tie.InvT-loop
-Inv-loop t list groups₀ recorded₀ clock seen₀ n i₀ groups recorded seen i =
-    (i ≤ n) × ((length groups ≡ length groups₀) × ((length recorded ≡ length recorded₀)
-    × (recordedDue (tableIn t) clock noneSeen (grouped groups₀ recorded₀) (listIn list) ≡ recordedDue (tableIn t) clock seen (grouped groups recorded) (drop i (listIn list)))))
+Inv-loop b₀ list clock seen₀ n i₀ b seen i =
+    (i ≤ n) × (IsBoard b × ((length b ≡ length b₀) × (recorded (boardIn b₀) clock noneSeen (listIn list) ≡ recorded (boardIn b) clock seen (drop i (listIn list)))))
 
 abbrev μ-loop : tie.MeasureT-loop
-μ-loop t list groups₀ recorded₀ clock seen₀ n i₀ groups recorded seen i = n - i
+μ-loop b₀ list clock seen₀ n i₀ b seen i = n - i
 
 count-requires : tie.Need-count-requires Inv-loop μ-loop
 count-requires c κs = search needs
 
 loop-holds : tie.Need-loop-holds Inv-loop μ-loop
-loop-holds c = (omega arith, (refl, (refl, refl)))
+loop-holds c = (omega arith, (c .before .before .before .pre, (refl, refl)))
 
 at-requires : tie.Need-at-requires Inv-loop μ-loop
 at-requires c κs = search needs
@@ -57,49 +62,49 @@ loop-less c = omega arith
 
 loop-again : tie.Need-loop-again Inv-loop μ-loop
 loop-again c =
-    let a = c .before .before .before .before .before .before .before .before .before .before .args in
-    let l = c .before .before .before .before .loop in
-    let tags = tableIn (now (a .t)) in
+    let a = c .before .before .before .before .before .before .before .before .before .args in
+    let l = c .before .before .before .before .before .loop in
+    let B = boardIn (l .b) in
+    let tags = B .table .tags in
     let list = listIn (now (a .list)) in
     let rest = drop (l .i + 1) list in
-    let G = grouped (l .groups) (l .recorded) in
     let s = c .before .settings-of in
-    let here : s .result ≡ getD tags (getD list (l .i) 0) freshTag .settings = s .ensures ∙ ap (λ (k : ℕ). getD tags k freshTag .settings) (c .before .before .at .ensures) in (
+    let here : s .result ≡ getD tags (getD list (l .i) 0) freshTag .settings = s .ensures ∙ ap (λ (k : ℕ). tagAt (B .table) k .settings) (c .before .before .at .ensures) in (
       omega arith,
       ⊎-elim
           (λ w. (
-            ap length (w .9) ∙ w .4 .kept .0 ∙ l .inv .1 .0,
+            rw (w .6) (w .3 .ensures .still),
             (
-              ap length (w .10) ∙ w .4 .kept .1 .0 ∙ l .inv .1 .1 .0,
+              ap length (w .6) ∙ w .3 .kept .0 ∙ l .inv .1 .1 .0,
               l .inv .1 .1 .1
-                  ∙ recorded-yes tags (a .clock) (l .seen) G list (l .i) (s .result) (omega arith) here (w .0 .taken)
-                  ∙ ap₂ (λ (x : List Bool) (H : Groups). recordedDue tags (a .clock) x H rest)
-                  (sym (w .11)) (sym (ap₂ grouped (w .9) (w .10) ∙ w .4 .ensures)),
+                  ∙ ap (λ (G : Groups). withGroups B G) (recorded-yes tags (a .clock) (l .seen) (B .groups) list (l .i) (s .result) (omega arith) here (w .0 .taken))
+                  ∙ ap₂ (λ (seen : List Bool) (X : Board). recorded X (a .clock) seen rest) (sym (w .7)) (sym (ap boardIn (w .6) ∙ w .3 .ensures .board)),
             ),
           ))
           (λ w. (
-            ap length (w .1) ∙ l .inv .1 .0,
+            rw (w .1) (l .inv .1 .0),
             (
-              ap length (w .2) ∙ l .inv .1 .1 .0,
+              ap length (w .1) ∙ l .inv .1 .1 .0,
               l .inv .1 .1 .1
-                  ∙ recorded-no tags (a .clock) (l .seen) G list (l .i) (s .result) (omega arith) here (w .0 .left)
-                  ∙ ap₂ (λ (x : List Bool) (H : Groups). recordedDue tags (a .clock) x H rest) (sym (w .3)) (sym (ap₂ grouped (w .1) (w .2))),
+                  ∙ ap (λ (G : Groups). withGroups B G) (recorded-no tags (a .clock) (l .seen) (B .groups) list (l .i) (s .result) (omega arith) here (w .0 .left))
+                  ∙ ap₂ (λ (seen : List Bool) (X : Board). recorded X (a .clock) seen rest) (sym (w .2)) (sym (ap boardIn (w .1))),
             ),
           ))
           (c .if1 .came),
     )
 
 same-length : tie.Need-same-length Inv-loop μ-loop
-same-length c = c .before .loop .inv .1 .0
-
-same-length-2 : tie.Need-same-length-2 Inv-loop μ-loop
-same-length-2 c = c .before .loop .inv .1 .1 .0
+same-length c = c .before .loop .inv .1 .1 .0
 
 returns : tie.Need-returns Inv-loop μ-loop
 returns c =
-    let a = c .before .before .before .before .before .before .before .args in
+    let a = c .before .before .before .before .before .args in
     let l = c .before .loop in
-    sym (l .inv .1 .1 .1 ∙ recorded-end (tableIn (now (a .t))) (a .clock) (l .seen) (grouped (l .groups) (l .recorded)) (listIn (now (a .list))) (l .i) (omega arith))
+    let B = boardIn (l .b) in
+    record {
+      still = l .inv .1 .0;
+      board = sym (l .inv .1 .1 .1 ∙ ap (λ (G : Groups). withGroups B G) (recorded-end (B .table .tags) (a .clock) (l .seen) (B .groups) (listIn (now (a .list))) (l .i) (omega arith)));
+    }
 
 pub record-due-spec : {M : Type 1} → statement M
 record-due-spec =
@@ -119,5 +124,4 @@ record-due-spec =
     loop-less
     loop-again
     same-length
-    same-length-2
     returns)

@@ -1,19 +1,28 @@
 -- `rounds::graces::expire` meets its contract.
-use mathlib.Core.Path.{ap, sym, _∙_}
-use borrow.Author.Tests.{not-true, not-false}
-use borrow.Author.Needs.{needs}
+use mathlib.Core.Path.{_≡_, ap, sym, _∙_}
 use denote.Ref.{now}
-use Rattle.tiers.specs.Tiers.{tabled}
-use Rattle.rounds.specs.Graces.{runOut}
+use borrow.Author.Tests.{not-true, not-false}
+use Rattle.tags.specs.Lists.{listIn, room}
+use Rattle.board.specs.Board.{Table, boardIn, withTable}
+use Rattle.board.proofs.BoardLaws.{tags-read, graces-read}
+use Rattle.rounds.specs.Graces.{expired}
 use Rattle.rounds.proofs.GraceLaws.{run-none}
+use borrow.Author.Needs.{needs}
 use Rattle.rounds.proofs.graces.expire.Statement.{statement}
 use Rattle.rounds.proofs.graces.expire.Tie as tie
 
 returns : tie.Need-returns
 returns c =
-    let a = c .before .before .before .before .before .before .args in
-    let T = tabled (now (a .t)) (now (a .order)) (now (a .graces)) (now (a .words)) in
-    rw (not-true (a .boundary) (c .if1 .taken)) (sym (run-none T))
+    let s = c .before .before .before in
+    let a = s .args in
+    let B = boardIn (now (a .b)) in
+    rw (not-true (a .boundary) (c .if1 .taken)) (record { still = s .pre; board = ap (λ (T : Table). withTable B T) (sym (run-none (B .table))) })
+
+table-of-requires : tie.Need-table-of-requires
+table-of-requires c κs = search needs
+
+graces-of-requires : tie.Need-graces-of-requires
+graces-of-requires c κs = search needs
 
 list-expired-requires : tie.Need-list-expired-requires
 list-expired-requires c κs = search needs
@@ -27,27 +36,28 @@ same-length c = search needs
 same-length-2 : tie.Need-same-length-2
 same-length-2 c = search needs
 
-same-length-3 : tie.Need-same-length-3
-same-length-3 c = search needs
-
-same-length-4 : tie.Need-same-length-4
-same-length-4 c = search needs
-
 returns-2 : tie.Need-returns-2
 returns-2 c =
-    let a = c .before .before .before .before .before .before .before .before .before .before .before .before .before .before .before .before .before .before .before .before .before .before .before .args in
-    let T = tabled (now (a .t)) (now (a .order)) (now (a .graces)) (now (a .words)) in
-    rw (not-false (a .boundary) (c .before .before .before .before .before .before .before .before .before .before .before .before .before .before .before .before .before .if1 .left)) (c .before .before .before .before .before .before .run-out .ensures ∙ ap (runOut T) (c .before .before .before .before .before .before .before .before .before .before .before .before .before .list-expired .ensures))
+    let a = c .before .before .before .before .before .before .before .before .before .before .before .before .before .before .before .args in
+    let b = now (a .b) in
+    let T = boardIn b .table in
+    let t = c .before .before .before .before .before .before .before .before .before .before .table-of in
+    let g = c .before .before .before .before .before .before .before .before .before .graces-of in
+    let list = c .before .before .before .before .before .before .before .list-expired in
+    let over : listIn (list .last .1 .1 .0) ≡ expired (room (now (a .list))) (T .tags) (T .graces) (a .clock) =
+    list .ensures ∙ rw (tags-read b (now (t .result)) (t .ensures), graces-read b (now (g .result)) (g .ensures))
+    in
+    rw (not-false (a .boundary) (c .before .before .before .before .before .before .before .before .before .before .before .before .if1 .left)) (rw over at (c .before .before .run-out .ensures))
 
 pub expire-spec : {M : Type 1} → statement M
 expire-spec =
     tie.close
     (tie.spec
     returns
+    table-of-requires
+    graces-of-requires
     list-expired-requires
     run-out-requires
     same-length
     same-length-2
-    same-length-3
-    same-length-4
     returns-2)

@@ -3,31 +3,31 @@ use mathlib.Core.Path.{_≡_, refl, ap, ap₂, sym, _∙_}
 use Prim.Native.Nat.{_+_, _≤_, _<_, _-_}
 use native.Mathlib.Nat.{mod-eq-of-lt}
 use native.Mathlib.Omega.{arith}
-use borrow.Author.Needs.{needs}
 use denote.Ref.{now}
 use lib.ListN.{length, drop}
 use Rattle.tags.specs.Lists.{listIn}
 use Rattle.tags.proofs.ListLaws.{list-small}
 use Rattle.table.specs.declared.tag.Grace.{Grace}
-use Rattle.tiers.specs.Tiers.{Table, tabled, setTable}
+use Rattle.tiers.specs.Tiers.{setTable}
 use Rattle.rounds.specs.Graces.{runOut}
 use Rattle.rounds.proofs.GraceLaws.{run-more, run-end}
+use Rattle.board.specs.Layout.{IsBoard}
+use Rattle.board.specs.Board.{Table, Board, boardIn, withTable}
+use borrow.Author.Needs.{needs}
 use Rattle.rounds.proofs.graces.run_out.Statement.{statement}
 use Rattle.rounds.proofs.graces.run_out.Tie as tie
 
 abbrev Inv-loop : tie.InvT-loop
-Inv-loop t₀ order₀ graces₀ words list n i₀ t order graces i =
-    (i ≤ n) × ((length t ≡ length t₀) × ((length order ≡ length order₀) × ((length graces ≡ length graces₀)
-    × (runOut (tabled t₀ order₀ graces₀ words) (listIn list) ≡ runOut (tabled t order graces words) (drop i (listIn list))))))
+Inv-loop b₀ list n i₀ b i = (i ≤ n) × (IsBoard b × ((length b ≡ length b₀) × (withTable (boardIn b₀) (runOut (boardIn b₀ .table) (listIn list)) ≡ withTable (boardIn b) (runOut (boardIn b .table) (drop i (listIn list))))))
 
 abbrev μ-loop : tie.MeasureT-loop
-μ-loop t₀ order₀ graces₀ words list n i₀ t order graces i = n - i
+μ-loop b₀ list n i₀ b i = n - i
 
 count-requires : tie.Need-count-requires Inv-loop μ-loop
 count-requires c κs = search needs
 
 loop-holds : tie.Need-loop-holds Inv-loop μ-loop
-loop-holds c = (omega arith, (refl, (refl, (refl, refl))))
+loop-holds c = (omega arith, (c .before .before .before .pre, (refl, refl)))
 
 at-requires : tie.Need-at-requires Inv-loop μ-loop
 at-requires c κs = search needs
@@ -49,44 +49,39 @@ loop-less c = omega arith
 
 loop-again : tie.Need-loop-again Inv-loop μ-loop
 loop-again c =
-    let a = c .before .before .before .before .before .before .before .before .before .before .before .before .before .before .before .before .before .before .before .before .before .args in
-    let l = c .before .before .before .before .before .before .before .before .before .before .before .before .before .before .loop in
+    let a = c .before .before .before .before .before .before .before .before .before .before .before .before .args in
+    let l = c .before .before .before .before .before .before .before .before .loop in
     let tags = listIn (now (a .list)) in
-    let s = c .before .before .before .before .before .before .set in
-    let k = c .before .before .before .before .before .before .before .before .before .before .before .before .at in
+    let s = c .before .before .set in
+    let k = c .before .before .before .before .before .before .at in
     let small : k .result < 65536 = rw (k .ensures) (list-small (now (a .list)) (l .i)) in
-    let T = tabled (l .t) (l .order) (l .graces) (now (a .words)) in
-    let after = ap (λ (g : Grace). g .after) (c .before .before .before .before .before .before .before .before .before .before .grace-of .ensures) in (
+    let B = boardIn (l .b) in
+    let after = ap (λ (g : Grace). g .after) (c .before .before .before .before .grace-of .ensures) in (
       omega arith,
       (
-        s .kept .0 ∙ l .inv .1 .0,
+        s .ensures .still,
         (
-          s .kept .1 .0 ∙ l .inv .1 .1 .0,
-          (
-            s .kept .1 .1 .0 ∙ l .inv .1 .1 .1 .0,
-            l .inv .1 .1 .1 .1
-                ∙ run-more T tags (l .i) (k .result) (omega arith) (k .ensures)
-                ∙ ap (λ (X : Table). runOut X (drop (l .i + 1) tags))
-                (sym (s .ensures ∙ ap₂ (setTable T) (mod-eq-of-lt small) after)),
-          ),
+          s .kept .0 ∙ l .inv .1 .1 .0,
+          l .inv .1 .1 .1
+              ∙ ap (λ (T : Table). withTable B T) (run-more (B .table) tags (l .i) (k .result) (omega arith) (k .ensures))
+              ∙ ap (λ (X : Board). withTable X (runOut (X .table) (drop (l .i + 1) tags)))
+              (sym (s .ensures .board ∙ ap (λ (T : Table). withTable B T) (ap₂ (setTable (B .table)) (mod-eq-of-lt small) after))),
         ),
       ),
     )
 
 same-length : tie.Need-same-length Inv-loop μ-loop
-same-length c = c .before .loop .inv .1 .0
-
-same-length-2 : tie.Need-same-length-2 Inv-loop μ-loop
-same-length-2 c = c .before .loop .inv .1 .1 .0
-
-same-length-3 : tie.Need-same-length-3 Inv-loop μ-loop
-same-length-3 c = c .before .loop .inv .1 .1 .1 .0
+same-length c = c .before .loop .inv .1 .1 .0
 
 returns : tie.Need-returns Inv-loop μ-loop
 returns c =
-    let a = c .before .before .before .before .before .before .before .before .args in
+    let a = c .before .before .before .before .before .args in
     let l = c .before .loop in
-    sym (l .inv .1 .1 .1 .1 ∙ run-end (tabled (l .t) (l .order) (l .graces) (now (a .words))) (listIn (now (a .list))) (l .i) (omega arith))
+    let B = boardIn (l .b) in
+    record {
+      still = l .inv .1 .0;
+      board = sym (l .inv .1 .1 .1 ∙ ap (λ (T : Table). withTable B T) (run-end (B .table) (listIn (now (a .list))) (l .i) (omega arith)));
+    }
 
 pub run-out-spec : {M : Type 1} → statement M
 run-out-spec =
@@ -104,6 +99,4 @@ run-out-spec =
     loop-less
     loop-again
     same-length
-    same-length-2
-    same-length-3
     returns)

@@ -5,44 +5,49 @@ use mathlib.Core.Logic.{⊎-elim}
 use mathlib.Core.List.{List}
 use Prim.Native.Nat.{ℕ, _≤_, _<_, _-_, _%_}
 use native.Mathlib.Omega.{arith}
-use borrow.Author.Needs.{needs}
 use denote.Ref.{now}
 use lib.Ieee.{Float}
-use lib.ListN.{length, getD, take}
+use lib.ListN.{length, take}
 use lib.Seq.{take-nil}
 use Rattle.lists.specs.Keep.{keep}
-use Rattle.tags.specs.Lists.{listIn, room, pushed}
-use Rattle.tags.proofs.ListLaws.{room-same, list-small}
+use Rattle.tags.specs.Lists.{listIn, pushed}
+use Rattle.tags.proofs.ListLaws.{list-small}
 use Rattle.tags.proofs.CollectLaws.{collect-none, clipped-yes, clipped-no, clipped-all}
-use Rattle.table.specs.Tag.{freshTag}
-use Rattle.table.specs.Table.{tableIn}
+use Rattle.board.specs.Board.{Board, Holds, boardIn, tagAt, withAsked}
 use Rattle.rounds.specs.Missing.{isHeldBack}
+use borrow.Author.Needs.{needs}
 use Rattle.rounds.proofs.missing.drop_missing.Statement.{statement}
 use Rattle.rounds.proofs.missing.drop_missing.Tie as tie
 
--- the test that the loop collects by
-abbrev test : List ℕ → Float → ℕ → Bool
-test t clock k = not (isHeldBack (getD (tableIn t) k freshTag) clock)
+-- the test that the loop collects by, and what it has collected of a list
+abbrev test : Board → Float → ℕ → Bool
+test B clock k = not (isHeldBack (tagAt (B .table) k) clock)
+
+abbrev kept : Board → Float → List ℕ → List ℕ
+kept B clock xs = take (B .askedRoom) (keep (test B clock) xs)
 
 abbrev Inv-loop : tie.InvT-loop
-Inv-loop t wanted list₀ clock n i₀ list i =
-    (i ≤ n) × ((length list ≡ length list₀) × (listIn list ≡ take (room list₀) (keep (test t clock) (take i (listIn wanted)))))
+Inv-loop b₀ wanted clock n i₀ b i =
+    (i ≤ n) × ((length b ≡ length b₀) × Holds b (withAsked (boardIn b₀) (kept (boardIn b₀) clock (take i (listIn wanted)))))
 
 abbrev μ-loop : tie.MeasureT-loop
-μ-loop t wanted list₀ clock n i₀ list i = n - i
+μ-loop b₀ wanted clock n i₀ b i = n - i
 
-clear-requires : tie.Need-clear-requires Inv-loop μ-loop
-clear-requires c κs = search needs
+clear-asked-requires : tie.Need-clear-asked-requires Inv-loop μ-loop
+clear-asked-requires c κs = search needs
 
 count-requires : tie.Need-count-requires Inv-loop μ-loop
 count-requires c κs = search needs
 
 loop-holds : tie.Need-loop-holds Inv-loop μ-loop
 loop-holds c =
-    let a = c .before .before .before .before .before .before .before .before .args in
-    let start = c .before .before .before .clear in
-    let p = test (now (a .t)) (a .clock) in
-    (omega arith, (refl, start .ensures ∙ sym (take-nil (room (start .last .0))) ∙ ap (take (room (start .last .0))) (collect-none p (listIn (now (a .wanted))))))
+    let a = c .before .before .before .before .before .before .before .args in
+    let start = c .before .before .before .clear-asked in
+    let B = boardIn (now (a .b)) in
+    let xs = listIn (now (a .wanted)) in
+    let none = sym (take-nil (B .askedRoom)) ∙ ap (take (B .askedRoom)) (collect-none (test B (a .clock)) xs) in
+    let cleared = start .ensures .board in
+    (omega arith, (refl, record { still = start .ensures .still; board = cleared ∙ ap (λ (l : List ℕ). withAsked B l) none ∙ sym (ap (λ (X : Board). withAsked X (kept X (a .clock) (take 0 xs))) cleared) }))
 
 at-requires : tie.Need-at-requires Inv-loop μ-loop
 at-requires c κs = search needs
@@ -50,8 +55,11 @@ at-requires c κs = search needs
 is-tag-held-back-requires : tie.Need-is-tag-held-back-requires Inv-loop μ-loop
 is-tag-held-back-requires c κs = search needs
 
-push-requires : tie.Need-push-requires Inv-loop μ-loop
-push-requires c κs = search needs
+cast-push-asked : tie.Need-cast-push-asked Inv-loop μ-loop
+cast-push-asked c = search needs
+
+push-asked-requires : tie.Need-push-asked-requires Inv-loop μ-loop
+push-asked-requires c κs = search needs
 
 add-i : tie.Need-add-i Inv-loop μ-loop
 add-i c = omega arith
@@ -62,42 +70,54 @@ loop-less c = omega arith
 loop-again : tie.Need-loop-again Inv-loop μ-loop
 loop-again c =
     let a = c .before .before .before .before .before .before .before .before .before .before .before .before .before .args in
-    let l = c .before .before .before .before .loop in
-    let k = c .before .before .at in
+    let l = c .before .before .before .before .before .loop in
+    let k = c .before .before .before .at in
     let held = c .before .is-tag-held-back in
+    let B = boardIn (c .before .before .before .before .before .before .before .before .before .clear-asked .last .0) in
     let xs = listIn (now (a .wanted)) in
-    let start = c .before .before .before .before .before .before .before .before .clear .last .0 in
-    let p = test (now (a .t)) (a .clock) in
-    let same : room (l .list) ≡ room start = room-same (l .list) start (l .inv .1 .0) in
+    let p = test B (a .clock) in
+    let n = B .askedRoom in
+    let o = kept B (a .clock) (take (l .i) xs) in
+    let done = l .inv .1 .1 .board in
     let small : k .result < 65536 = rw (k .ensures) (list-small (now (a .wanted)) (l .i)) in
-    let tested : p (k .result) ≡ not (held .result) = ap not (sym (held .ensures)) in (
+    let tested : p (k .result) ≡ not (held .result) = ap (λ (X : Board). test X (a .clock) (k .result)) (sym done) ∙ ap not (sym (held .ensures)) in (
       omega arith,
       ⊎-elim
           (λ w. (
             ap length (w .5) ∙ w .2 .kept .0 ∙ l .inv .1 .0,
-            ap listIn (w .5) ∙ w .2 .ensures ∙ ap (λ (m : ℕ). pushed m (listIn (l .list)) (k .result % 65536)) same
-                ∙ clipped-yes p xs (room start) (l .i) (listIn (l .list)) (l .inv .1 .1) (k .result) 0 (omega arith) small (k .ensures) (tested ∙ w .0 .taken),
+            record {
+              still = rw (w .5) (w .2 .ensures .still);
+              board = ap boardIn (w .5) ∙ w .2 .ensures .board
+                  ∙ ap (λ (X : Board). withAsked X (pushed (X .askedRoom) (X .asked) (k .result % 65536))) done
+                  ∙ ap (λ (r : List ℕ). withAsked B r) (clipped-yes p xs n (l .i) o refl (k .result) 0 (omega arith) small (k .ensures) (tested ∙ w .0 .taken));
+            },
           ))
           (λ w. (
             ap length (w .1) ∙ l .inv .1 .0,
-            ap listIn (w .1)
-                ∙ clipped-no p xs (room start) (l .i) (listIn (l .list)) (l .inv .1 .1) (k .result) 0 (omega arith) (k .ensures) (tested ∙ w .0 .left),
+            record {
+              still = rw (w .1) (l .inv .1 .1 .still);
+              board = ap boardIn (w .1) ∙ done
+                  ∙ ap (λ (r : List ℕ). withAsked B r) (clipped-no p xs n (l .i) o refl (k .result) 0 (omega arith) (k .ensures) (tested ∙ w .0 .left));
+            },
           ))
           (c .if1 .came),
     )
 
 same-length : tie.Need-same-length Inv-loop μ-loop
-same-length c = c .before .loop .inv .1 .0 ∙ c .before .before .before .before .before .clear .kept .0
+same-length c = c .before .loop .inv .1 .0 ∙ c .before .before .before .before .before .clear-asked .kept .0
 
 returns : tie.Need-returns Inv-loop μ-loop
 returns c =
-    let a = c .before .before .before .before .before .before .before .before .before .before .args in
+    let a = c .before .before .before .before .before .before .before .before .before .args in
     let l = c .before .loop in
-    let start = c .before .before .before .before .before .clear in
-    let p = test (now (a .t)) (a .clock) in
+    let B = boardIn (now (a .b)) in
     let xs = listIn (now (a .wanted)) in
-    clipped-all p xs (room (start .last .0)) (l .i) (listIn (l .list)) (l .inv .1 .1) (omega arith)
-    ∙ ap (λ (m : ℕ). take m (keep p xs)) (room-same (start .last .0) (now (a .list)) (start .kept .0))
+    record {
+      still = l .inv .1 .1 .still;
+      board = l .inv .1 .1 .board
+          ∙ ap (λ (X : Board). withAsked X (kept X (a .clock) (take (l .i) xs))) (c .before .before .before .before .before .clear-asked .ensures .board)
+          ∙ ap (λ (r : List ℕ). withAsked B r) (clipped-all (test B (a .clock)) xs (B .askedRoom) (l .i) (kept B (a .clock) (take (l .i) xs)) refl (omega arith));
+    }
 
 pub drop-missing-spec : {M : Type 1} → statement M
 drop-missing-spec =
@@ -105,12 +125,13 @@ drop-missing-spec =
     (tie.spec
     Inv-loop
     μ-loop
-    clear-requires
+    clear-asked-requires
     count-requires
     loop-holds
     at-requires
     is-tag-held-back-requires
-    push-requires
+    cast-push-asked
+    push-asked-requires
     add-i
     loop-less
     loop-again

@@ -17,4 +17,9 @@ returns-2 c = rw (← (c .before .timing-of .ensures), c .if1 .left)
 
 pub is-tag-held-back-spec : {M : Type 1} → statement M
 is-tag-held-back-spec =
-    tie.close (tie.spec timing-of-requires is-held-back-requires returns returns-2)
+    tie.close
+    (tie.spec
+    timing-of-requires
+    is-held-back-requires
+    returns
+    returns-2)

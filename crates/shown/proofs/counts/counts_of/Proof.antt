@@ -2,7 +2,6 @@
 use borrow.Author.Needs.{needs}
 use Rattle.shown.proofs.counts.counts_of.Statement.{statement}
 use Rattle.shown.proofs.counts.counts_of.Tie as tie
-use Rattle.board.proofs.looks.tier_count.Reads as tier-count-reads
 
 tier-count-requires : tie.Need-tier-count-requires
 tier-count-requires c κs = search needs

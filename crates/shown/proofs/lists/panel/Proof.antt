@@ -3,7 +3,8 @@ use mathlib.Core.Path.{_≡_, refl, ap, _∙_}
 use native.Mathlib.Omega.{arith}
 use denote.Ref.{now}
 use lib.ListN.{length}
-use Rattle.panel.specs.Panel.{written}
+use Rattle.names.specs.Directory.{maxNames}
+use Rattle.panel.specs.Panel.{panelRoom, written}
 use Rattle.board.specs.Board.{boardIn}
 use Rattle.shown.specs.Looks.{listed, shortOf, panelBytes, panelCount}
 use Rattle.shown.proofs.LookLaws.{short, enough, refused, given}
@@ -19,8 +20,8 @@ returns c =
     let s = c .before .before .before .before in
     let B = boardIn (now (s .args .board)) in
     let out = now (s .args .out) in
-    let code : shortOf (length out) 241 ≡ 43 = short (length out) 241 (omega (arith, c .before .if1 .taken)) in
-    refused 43 (shortOf (length out) 241) (panelCount B out) out (written out (panelBytes B)) (c .listed .result) refl code (c .listed .ensures)
+    let code : shortOf (length out) (panelRoom maxNames) ≡ 43 = short (length out) (panelRoom maxNames) (omega (arith, c .before .if1 .taken)) in
+    refused 43 (shortOf (length out) (panelRoom maxNames)) (panelCount B out) out (written out (panelBytes B)) (c .listed .result) refl code (c .listed .ensures)
 
 write-panel-requires : tie.Need-write-panel-requires
 write-panel-requires c κs = search needs
@@ -37,9 +38,9 @@ returns-2 c =
     let B = boardIn (now (s .args .board)) in
     let out = now (s .args .out) in
     let call = c .before .before .before .write-panel in
-    let code : shortOf (length out) 241 ≡ 0 = enough (length out) 241 (omega (arith, c .before .before .before .before .before .if1 .left)) in
+    let code : shortOf (length out) (panelRoom maxNames) ≡ 0 = enough (length out) (panelRoom maxNames) (omega (arith, c .before .before .before .before .before .if1 .left)) in
     let told : c .listed2 .result ≡ listed 0 (panelCount B out) = c .listed2 .ensures ∙ ap (listed 0) (call .ensures .0) in
-    given (shortOf (length out) 241) (panelCount B out) out (call .last .1 .0) (written out (panelBytes B)) (c .listed2 .result) code told (call .ensures .1)
+    given (shortOf (length out) (panelRoom maxNames)) (panelCount B out) out (call .last .1 .0) (written out (panelBytes B)) (c .listed2 .result) code told (call .ensures .1)
 
 pub panel-spec : {M : Type 1} → statement M
 panel-spec = tie.close (tie.spec listed-requires returns write-panel-requires listed-requires-2 same-length returns-2)

@@ -2,7 +2,6 @@
 use borrow.Author.Needs.{needs}
 use Rattle.shown.proofs.tag.tag_of.Statement.{statement}
 use Rattle.shown.proofs.tag.tag_of.Tie as tie
-use Rattle.board.proofs.looks.tier_of.Reads as tier-of-reads
 
 tier-of-requires : tie.Need-tier-of-requires
 tier-of-requires c κs = search needs

@@ -1,20 +1,18 @@
 -- `tiers::set::put` meets its contract.
-use mathlib.Core.Path.{_≡_, refl, ap, _∙_}
-use mathlib.Core.List.{List}
+use mathlib.Core.Path.{_≡_, ap, _∙_}
+use Prim.Native.Nat.{ℕ}
 use denote.Ref.{now}
-use lib.ListN.{getD, set}
-use Rattle.table.specs.Tag.{freshTag}
-use Rattle.table.specs.Table.{tableIn, withGrace, withStanding}
-use Rattle.table.specs.declared.tag.Tag.{Tag}
-use Rattle.table.proofs.RowLaws.{set-again}
-use Rattle.tiers.specs.Tiers.{tabled, tagAt, isBit, addedSet, wantsSet, tagSet, keptFor, putTable}
-use Rattle.tiers.proofs.Laws.{same-room, tabled-is, standing-kept}
+use Rattle.tiers.specs.Tiers.{addedSet, wantsSet, orderSet, graceEnded}
+use Rattle.table.specs.declared.tag.Grace.{Grace}
+use Rattle.table.specs.Table.{withStanding}
+use Rattle.board.specs.Board.{boardIn, withTag, withOrder, withGraces, tagAt, isBit}
+use Rattle.tiers.proofs.Laws.{put-steps}
 use borrow.Author.Needs.{needs}
 use Rattle.tiers.proofs.set.put.Statement.{statement}
 use Rattle.tiers.proofs.set.put.Tie as tie
 
-half-requires : tie.Need-half-requires
-half-requires c κs = search needs
+is-bit-requires : tie.Need-is-bit-requires
+is-bit-requires c κs = search needs
 
 tier-of-requires : tie.Need-tier-of-requires
 tier-of-requires c κs = search needs
@@ -49,21 +47,10 @@ end-grace-requires c κs = search needs
 same-length : tie.Need-same-length
 same-length c = search needs
 
-same-length-2 : tie.Need-same-length-2
-same-length-2 c = search needs
-
-same-length-3 : tie.Need-same-length-3
-same-length-3 c = search needs
-
 returns : tie.Need-returns
-unfolding putTable
 returns c =
-    let a = c .before .before .before .before .before .before .before .before .before .before .before .before .before .before .before .before .before .before .before .before .before .before .before .before .before .before .before .before .before .before .before .args in
-    let k = a .k in
-    let tier = a .tier in
-    let t = now (a .t) in
-    let T = tabled t (now (a .order)) (now (a .graces)) (now (a .words)) in
-    let x = tagAt T k in
+    let a = c .before .before .before .before .before .before .before .before .before .before .before .before .before .before .before .before .before .before .before .before .before .before .before .before .before .before .before .before .before .args in
+    let bit = c .before .before .before .before .before .before .before .before .before .before .before .before .before .before .before .before .before .before .before .before .before .before .before .before .before .before .is-bit in
     let old = c .before .before .before .before .before .before .before .before .before .before .before .before .before .before .before .before .before .before .before .before .before .before .before .before .tier-of in
     let grace = c .before .before .before .before .before .before .before .before .before .before .before .before .before .before .before .before .before .before .before .before .before .before .grace-of in
     let added = c .before .before .before .before .before .before .before .before .before .before .before .before .before .before .before .before .before .before .before .added-set in
@@ -72,27 +59,21 @@ returns c =
     let kept = c .before .before .before .before .before .before .before .before .before .before .forget-for in
     let order = c .before .before .before .before .before .before .order-set in
     let graces = c .before .before .end-grace in
-    let is-added : added .result ≡ addedSet x tier = added .ensures ∙ simp (old .ensures, c .before .before .before .before .before .before .before .before .before .before .before .before .before .before .before .before .before .before .before .before .added-of .ensures) in
-    let is-wanted : wants .result ≡ wantsSet x (isBit T k) tier = wants .ensures ∙ simp (old .ensures, c .before .before .before .before .before .before .before .before .before .before .before .before .before .before .before .before .before .wants-of .ensures, c .before .before .before .before .before .before .before .before .before .before .before .before .before .before .before .before .before .before .before .before .before .before .before .before .before .before .half .ensures) in
-    let standing = withStanding x tier (a .g) (addedSet x tier) (wantsSet x (isBit T k) tier) in
-    let stands : tableIn (stood .last .0) ≡ set (tableIn t) k standing = stood .ensures ∙ rw (is-added, is-wanted) in
-    let tags : tableIn (kept .last .0) ≡ set (tableIn t) k (withGrace (tagSet x (isBit T k) tier) (a .g)) =
-    kept .ensures
-    ∙ ap (λ (ts : List Tag). set ts k (keptFor (getD ts k freshTag) tier)) stands
-    ∙ set-again (λ (y : Tag). keptFor y tier) (tableIn t) k standing freshTag
-    ∙ ap (set (tableIn t) k) (standing-kept x (isBit T k) tier (a .g))
+    let B = boardIn (now (a .b)) in
+    let x = tagAt (B .table) (a .k) in
+    let is-added : added .result ≡ addedSet x (a .tier) = added .ensures ∙ simp (old .ensures, c .before .before .before .before .before .before .before .before .before .before .before .before .before .before .before .before .before .before .before .before .added-of .ensures) in
+    let is-wanted : wants .result ≡ wantsSet x (isBit (B .table) (a .k)) (a .tier) = wants .ensures ∙ simp (old .ensures, c .before .before .before .before .before .before .before .before .before .before .before .before .before .before .before .before .before .wants-of .ensures, bit .ensures) in
+    let steps =
+    put-steps B (boardIn (stood .last .0)) (boardIn (kept .last .0)) (boardIn (order .last .0)) (boardIn (graces .last .0)) (a .k) (a .tier) (a .g)
+    (stood .ensures .board ∙ rw (is-added, is-wanted)) (kept .ensures .board) (order .ensures .board ∙ rw (old .ensures)) (graces .ensures .board ∙ rw (grace .ensures))
     in
-    tabled-is (putTable T k tier (a .g)) (kept .last .0) (order .last .0) (graces .last .0) (now (a .words))
-    tags
-    (order .ensures ∙ simp (old .ensures))
-    (graces .ensures ∙ simp (grace .ensures))
-    (same-room (order .last .0) (now (a .order)) (order .kept .0)) (same-room (graces .last .0) (now (a .graces)) (graces .kept .0)) refl
+    record { still = graces .ensures .still; board = steps }
 
 pub put-spec : {M : Type 1} → statement M
 put-spec =
     tie.close
     (tie.spec
-    half-requires
+    is-bit-requires
     tier-of-requires
     grace-of-requires
     added-of-requires
@@ -104,6 +85,4 @@ put-spec =
     order-set-requires
     end-grace-requires
     same-length
-    same-length-2
-    same-length-3
     returns)

@@ -1,10 +1,7 @@
 -- `versions::check::check_version` meets its contract.
-use mathlib.Core.Path.{_≡_, ap, sym, _∙_}
+use mathlib.Core.Path.{_≡_, refl, ap, sym, _∙_}
 use mathlib.Core.Bool.{Bool, true, false}
-use denote.Ref.{now}
-use Rattle.memory.specs.Halves.{halvesIn}
-use Rattle.table.specs.Table.{tableIn}
-use Rattle.versions.specs.Versions.{isChanged, tableTaken, takesSettings, versionTable}
+use Rattle.versions.specs.Versions.{isChanged, takesSettings, versionTable}
 use borrow.Author.Needs.{needs}
 use Rattle.versions.proofs.check.check_version.Statement.{statement}
 use Rattle.versions.proofs.check.check_version.Tie as tie
@@ -24,23 +21,22 @@ same-length c = search needs
 returns : tie.Need-returns
 unfolding versionTable
 returns c =
-    let a = c .before .before .before .before .before .before .before .before .before .before .args in
+    let a = c .before .before .before .before .before .before .before .before .before .args in
     let changed = c .before .before .before .before .before .before .is-changed in
     let test = c .before .before .before .before .before .takes-settings in
     let takes : takesSettings (isChanged (a .old) (a .new)) (a .connecting) ≡ true =
     ap (λ (b : Bool). takesSettings b (a .connecting)) (sym (changed .ensures)) ∙ sym (test .ensures) ∙ c .before .before .before .before .if1 .taken in
-    rw takes
-    (c .before .before .take-all .ensures
-    ∙ ap (λ (b : Bool). tableTaken b (now (a .settings)) (halvesIn (now (a .words))) (tableIn (now (a .t)))) (changed .ensures))
+    rw takes (rw (changed .ensures) at (c .before .before .take-all .ensures))
 
 returns-2 : tie.Need-returns-2
 unfolding versionTable
 returns-2 c =
-    let a = c .before .before .before .before .before .before .args in
+    let s = c .before .before .before .before .before in
+    let a = s .args in
     let changed = c .before .before .is-changed in
     let keeps : takesSettings (isChanged (a .old) (a .new)) (a .connecting) ≡ false =
     ap (λ (b : Bool). takesSettings b (a .connecting)) (sym (changed .ensures)) ∙ sym (c .before .takes-settings .ensures) ∙ c .if1 .left in
-    rw keeps
+    rw keeps (record { still = s .pre; board = refl })
 
 pub check-version-spec : {M : Type 1} → statement M
 check-version-spec =

@@ -1,13 +1,16 @@
 -- `watch::run::steps` meets its contract.
 use mathlib.Core.Path.{_≡_, refl}
+use Prim.Native.Nat.{_*_}
 use native.Mathlib.Omega.{arith}
 use borrow.Author.Needs.{needs}
 use lib.ListN.{length}
+use Rattle.names.specs.Directory.{maxNames}
+use Rattle.lent.specs.Changes.{changeSize}
 use Rattle.watch.proofs.run.steps.Statement.{statement}
 use Rattle.watch.proofs.run.steps.Tie as tie
 
 abbrev Inv-loop : tie.InvT-loop
-Inv-loop names ends mem₀ out₀ list₀ run₀ h₀ kind₀ left₀ mem out list run h kind left = (length mem ≡ length mem₀) × (length out ≡ 6720) × (length list ≡ 128)
+Inv-loop names ends mem₀ out₀ list₀ run₀ h₀ kind₀ left₀ mem out list run h kind left = (length mem ≡ length mem₀) × (length out ≡ maxNames * changeSize) × (length list ≡ 128)
 
 abbrev μ-loop : tie.MeasureT-loop
 μ-loop names ends mem₀ out₀ list₀ run₀ h₀ kind₀ left₀ mem out list run h kind left = left

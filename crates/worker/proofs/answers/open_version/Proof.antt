@@ -62,7 +62,7 @@ returns c out =
     let new : c .before .before .before .before .before .before .before .before .before .before .before .before .number-of .result ≡ number = c .before .before .before .before .before .before .before .before .before .before .before .before .number-of .ensures list in
     let B2 = withRecords B (versionTable old number true list (B .table .words) (B .table .tags)) in
     let kept : boardIn (c .before .before .before .before .before .before .before .before .before .before .check-version .last .0) ≡ B2 =
-    c .before .before .before .before .before .before .before .before .before .before .check-version .ensures ∙ ap (λ (v : Number). withRecords B (versionTable old v true list (B .table .words) (B .table .tags))) new in
+    c .before .before .before .before .before .before .before .before .before .before .check-version .ensures .board ∙ ap (λ (v : Number). withRecords B (versionTable old v true list (B .table .words) (B .table .tags))) new in
     let N = worker (withLink (a .e) (withVersion (a .e .link) number)) B2 in
     let next : c .before .before .before .before .before .before .with-link .result ≡ N .head =
     c .before .before .before .before .before .before .with-link .ensures ∙ ap (withLink (a .e)) (c .before .before .before .before .before .before .before .with-version .ensures ∙ ap (withVersion (a .e .link)) new) in
@@ -94,7 +94,7 @@ returns-2 c out =
     let new : c .before .before .before .before .before .before .before .before .before .number-of .result ≡ number = c .before .before .before .before .before .before .before .before .before .number-of .ensures list in
     let B2 = withRecords B (versionTable old number true list (B .table .words) (B .table .tags)) in
     let kept : boardIn (c .before .before .before .before .before .before .before .check-version .last .0) ≡ B2 =
-    c .before .before .before .before .before .before .before .check-version .ensures ∙ ap (λ (v : Number). withRecords B (versionTable old v true list (B .table .words) (B .table .tags))) new in
+    c .before .before .before .before .before .before .before .check-version .ensures .board ∙ ap (λ (v : Number). withRecords B (versionTable old v true list (B .table .words) (B .table .tags))) new in
     let N = worker (withLink (a .e) (withVersion (a .e .link) number)) B2 in
     let next : c .before .before .before .with-link .result ≡ N .head =
     c .before .before .before .with-link .ensures ∙ ap (withLink (a .e)) (c .before .before .before .before .with-version .ensures ∙ ap (withVersion (a .e .link)) new) in

@@ -4,9 +4,8 @@ use mathlib.Core.Bool.{Bool, true, false, cond}
 use lib.Dec.{eqb}
 use denote.Ref.{now}
 use Rattle.values.specs.declared.value.Value.the-variants.{Null}
-use Rattle.writes.specs.ReadBack.{readBackFirst}
+use Rattle.writes.specs.ReadBack.{readBackFirst, keptBack}
 use Rattle.board.specs.Board.{boardIn}
-use Rattle.talks.specs.Talks.{keptBack}
 use Rattle.heads.specs.declared.progress.Phase.the-variants.{LostTold, OutcomeTold}
 use Rattle.replies.specs.Reply as reply
 use Rattle.replies.specs.Worker.{worker, saidIn, asks}
@@ -66,7 +65,7 @@ returns-2 c out =
     let kept = asks (worker (a .e) (keptBack B list)) OutcomeTold (reply.wentThrough k (readBackFirst list)) in
     let r : c .before .went-through2 .result ≡ reply.wentThrough k (readBackFirst list) = c .before .went-through2 .ensures ∙ ap (reply.wentThrough k) (c .before .before .read-back-value .ensures) in
     done-is kept (readBack W (answer (a .a) list)) _ _ _ _ (ap (λ (b : Bool). cond b lost kept) (sym test))
-    (asked-done (a .e) (keptBack B list) OutcomeTold (reply.wentThrough k (readBackFirst list)) _ _ out (c .phased2 .ensures ∙ ap (saidIn (a .e) OutcomeTold) r) (c .before .before .before .before .before .keep-back .ensures))
+    (asked-done (a .e) (keptBack B list) OutcomeTold (reply.wentThrough k (readBackFirst list)) _ _ out (c .phased2 .ensures ∙ ap (saidIn (a .e) OutcomeTold) r) (c .before .before .before .before .before .keep-back .ensures .board))
 
 pub read-back-spec : {M : Type 1} → statement M
 read-back-spec =

@@ -9,7 +9,8 @@ use lib.IntN.{ℤ}
 use mir.Syntax.{w64}
 use mir.ValLaws.{toZ-ofZ}
 use Rattle.board.specs.Board.{Board, boardIn}
-use Rattle.polls.specs.Polls.{Changing, appliedTo, changesIn}
+use Rattle.lent.specs.Lent.{cellBytes}
+use Rattle.readings.specs.Changes.{Changing, appliedTo, changesIn}
 use Rattle.heads.specs.declared.progress.Phase.the-variants.{ValuesTold}
 use Rattle.replies.specs.Reply as reply
 use Rattle.replies.specs.Worker.{worker, at, phased, saidIn, tell}
@@ -43,7 +44,7 @@ returns c =
     let t = at (a .clock) (a .wall) in
     let C = appliedTo B list (a .e .progress .start) (a .wall) true in
     let N = worker (a .e) (C .board) in
-    let told = tell (phased N ValuesTold) (reply.values (length (C .changes))) (changesIn (C .board) (C .changes)) in
+    let told = tell (phased N ValuesTold) (reply.values (length (C .changes))) (cellBytes (changesIn (C .board) (C .changes))) in
     let on = cond (isEmpty (C .changes)) (reading N t) told in
     let test : eqb (a .a .kind) 6 ≡ true = eq-eqb _ _ (c .before .before .before .before .before .before .before .if1 .taken) in
     done-is (down W) (results W t A) _ _ _ _ (ap (λ (b : Bool). cond b (down W) on) (sym test)) (c .before .before .before .before .down .ensures)
@@ -72,16 +73,16 @@ returns-2 c =
     let fit = c .before .before .before .before .before .before .before .before .before .before .before .before .before .before .before .before .before .before .before .before .fits .wall in
     let C = appliedTo B list (a .e .progress .start) (a .wall) true in
     let y = c .before .before .before .before .before .before .before .before .before .before .before .before .apply-polled in
-    let made : Changing C (y .result) (boardIn (y .last .0)) (now (a .out)) (y .last .1 .0) =
-    subst (λ (z : ℤ). Changing (appliedTo B list (a .e .progress .start) z true) (y .result) (boardIn (y .last .0)) (now (a .out)) (y .last .1 .0)) (toZ-ofZ w64 (a .wall) fit) (y .ensures) in
+    let made : Changing C (y .result) (y .last .0) (now (a .out)) (y .last .1 .0) =
+    subst (λ (z : ℤ). Changing (appliedTo B list (a .e .progress .start) z true) (y .result) (y .last .0) (now (a .out)) (y .last .1 .0)) (toZ-ofZ w64 (a .wall) fit) (y .ensures) in
     let N = worker (a .e) (C .board) in
-    let told = tell (phased N ValuesTold) (reply.values (length (C .changes))) (changesIn (C .board) (C .changes)) in
+    let told = tell (phased N ValuesTold) (reply.values (length (C .changes))) (cellBytes (changesIn (C .board) (C .changes))) in
     let on = cond (isEmpty (C .changes)) (reading N t) told in
     let test : eqb (a .a .kind) 6 ≡ false = ne-eqb _ _ (c .before .before .before .before .before .before .before .before .before .before .before .before .before .before .before .if1 .left) in
     let test2 : isEmpty (C .changes) ≡ true = sym (empty-is (C .changes)) ∙ ap (λ (n : ℕ). eqb n 0) (sym (made .count-is)) ∙ eq-eqb _ _ (c .before .before .before .before .before .before .before .if2 .taken) in
     let M = boardIn (y .last .0) in
     let here : reading (worker (a .e) M) t ≡ results W t A =
-    ap (λ (x : Board). reading (worker (a .e) x) t) (made .board-is) ∙ ap (λ (b : Bool). cond b (reading N t) told) (sym test2) ∙ ap (λ (b : Bool). cond b (down W) on) (sym test) in
+    ap (λ (x : Board). reading (worker (a .e) x) t) (made .holds .board) ∙ ap (λ (b : Bool). cond b (reading N t) told) (sym test2) ∙ ap (λ (b : Bool). cond b (down W) on) (sym test) in
     done-from (results W t A) _ _ _ _ _ (no-changes (C .board) (C .changes) _ _ test2 (made .out-is))
     (done-is _ (results W t A) _ _ _ _ (ap (λ (z : ℤ). reading (worker (a .e) M) (at (a .clock) z)) (toZ-ofZ w64 (a .wall) fit) ∙ here) (c .before .before .before .before .reading .ensures))
 
@@ -109,16 +110,16 @@ returns-3 c =
     let fit = c .before .before .before .before .before .before .before .before .before .before .before .before .before .before .before .fits .wall in
     let C = appliedTo B list (a .e .progress .start) (a .wall) true in
     let y = c .before .before .before .before .before .before .before .apply-polled in
-    let made : Changing C (y .result) (boardIn (y .last .0)) (now (a .out)) (y .last .1 .0) =
-    subst (λ (z : ℤ). Changing (appliedTo B list (a .e .progress .start) z true) (y .result) (boardIn (y .last .0)) (now (a .out)) (y .last .1 .0)) (toZ-ofZ w64 (a .wall) fit) (y .ensures) in
+    let made : Changing C (y .result) (y .last .0) (now (a .out)) (y .last .1 .0) =
+    subst (λ (z : ℤ). Changing (appliedTo B list (a .e .progress .start) z true) (y .result) (y .last .0) (now (a .out)) (y .last .1 .0)) (toZ-ofZ w64 (a .wall) fit) (y .ensures) in
     let N = worker (a .e) (C .board) in
-    let told = tell (phased N ValuesTold) (reply.values (length (C .changes))) (changesIn (C .board) (C .changes)) in
+    let told = tell (phased N ValuesTold) (reply.values (length (C .changes))) (cellBytes (changesIn (C .board) (C .changes))) in
     let on = cond (isEmpty (C .changes)) (reading N t) told in
     let test : eqb (a .a .kind) 6 ≡ false = ne-eqb _ _ (c .before .before .before .before .before .before .before .before .before .before .if1 .left) in
     let test2 : isEmpty (C .changes) ≡ false = sym (empty-is (C .changes)) ∙ ap (λ (n : ℕ). eqb n 0) (sym (made .count-is)) ∙ ne-eqb _ _ (c .before .before .if2 .left) in
     let r : c .before .listed .result ≡ reply.values (length (C .changes)) = c .before .listed .ensures ∙ ap (λ (n : ℕ). reply.values n) (made .count-is) in
     done-is told (results W t A) _ _ _ _ (ap (λ (b : Bool). cond b (reading N t) told) (sym test2) ∙ ap (λ (b : Bool). cond b (down W) on) (sym test))
-    (told-done (a .e) (C .board) ValuesTold (reply.values (length (C .changes))) (changesIn (C .board) (C .changes)) _ _ _ _ (c .phased .ensures ∙ ap (saidIn (a .e) ValuesTold) r) (made .board-is) (made .out-is) refl)
+    (told-done (a .e) (C .board) ValuesTold (reply.values (length (C .changes))) (cellBytes (changesIn (C .board) (C .changes))) _ _ _ _ (c .phased .ensures ∙ ap (saidIn (a .e) ValuesTold) r) (made .holds .board) (made .out-is) refl)
 
 pub results-spec : {M : Type 1} → statement M
 results-spec =

@@ -6,7 +6,7 @@ use Prim.Native.Nat.{ℕ}
 use lib.Dec.{eqb}
 use lib.ListN.{length, take}
 use denote.Ref.{now}
-use Rattle.lent.specs.Lent.{wroteAll}
+use Rattle.lent.specs.Lent.{tagBytes, wroteAll}
 use Rattle.writes.specs.ReadBack.{readBackTags}
 use Rattle.board.specs.Board.{Board, boardIn, withAsked}
 use Rattle.heads.specs.declared.progress.Phase.the-variants.{ReadBack, RefusedTold, LostTold}
@@ -47,18 +47,18 @@ returns c =
     let W = worker (a .e) B in
     let A = answer (a .a) (now (a .list)) in
     let asked = take (B .askedRoom) (readBackTags (B .table .words) k) in
-    let through = tell (phased (worker (a .e) (withAsked B asked)) ReadBack) (reply.readBack (length asked)) asked in
+    let through = tell (phased (worker (a .e) (withAsked B asked)) ReadBack) (reply.readBack (length asked)) (tagBytes asked) in
     let refused = asks W RefusedTold (reply.wasRefused k (a .a .number) (a .a .message)) in
     let lost = asks W LostTold (reply.wasLost k) in
     let y = c .before .before .before .before .put-asked in
     let test : eqb (a .a .kind) 7 ≡ true = eq-eqb _ _ (c .before .before .before .before .before .before .before .before .before .before .before .if1 .taken) in
-    let kept : boardIn (c .before .before .before .before .before .before .before .before .before .ask-read-back .last .0) ≡ withAsked B asked = c .before .before .before .before .before .before .before .before .before .ask-read-back .ensures in
+    let kept : boardIn (c .before .before .before .before .before .before .before .before .before .ask-read-back .last .0) ≡ withAsked B asked = c .before .before .before .before .before .before .before .before .before .ask-read-back .ensures .board in
     let same : boardIn (c .before .before .before .before .before .before .before .before .before .ask-read-back .last .0) .asked ≡ asked = ap (λ (x : Board). x .asked) kept in
     let count : y .result ≡ length asked = y .ensures .0 ∙ ap (λ (l : List ℕ). length l) same in
-    let wrote : y .last .1 .0 ≡ wroteAll (now (a .out)) asked = y .ensures .1 ∙ ap (wroteAll (now (a .out))) same in
+    let wrote : y .last .1 .0 ≡ wroteAll (now (a .out)) (tagBytes asked) = y .ensures .1 ∙ ap (λ (l : List ℕ). wroteAll (now (a .out)) (tagBytes l)) same in
     let r : c .before .listed .result ≡ reply.readBack (length asked) = c .before .listed .ensures ∙ ap (λ (n : ℕ). reply.readBack n) count in
     done-is through (written W A) _ _ _ _ (ap (λ (b : Bool). cond b through (cond (eqb (a .a .kind) 8) refused lost)) (sym test))
-    (told-done (a .e) (withAsked B asked) ReadBack (reply.readBack (length asked)) asked _ _ _ _ (c .phased .ensures ∙ ap (saidIn (a .e) ReadBack) r) kept wrote refl)
+    (told-done (a .e) (withAsked B asked) ReadBack (reply.readBack (length asked)) (tagBytes asked) _ _ _ _ (c .phased .ensures ∙ ap (saidIn (a .e) ReadBack) r) kept wrote refl)
 
 was-refused-requires : tie.Need-was-refused-requires
 was-refused-requires c κs = search needs
@@ -75,7 +75,7 @@ returns-2 c =
     let W = worker (a .e) B in
     let A = answer (a .a) (now (a .list)) in
     let asked = take (B .askedRoom) (readBackTags (B .table .words) k) in
-    let through = tell (phased (worker (a .e) (withAsked B asked)) ReadBack) (reply.readBack (length asked)) asked in
+    let through = tell (phased (worker (a .e) (withAsked B asked)) ReadBack) (reply.readBack (length asked)) (tagBytes asked) in
     let refused = asks W RefusedTold (reply.wasRefused k (a .a .number) (a .a .message)) in
     let lost = asks W LostTold (reply.wasLost k) in
     let test : eqb (a .a .kind) 7 ≡ false = ne-eqb _ _ (c .before .before .before .before .if1 .left) in
@@ -99,7 +99,7 @@ returns-3 c =
     let W = worker (a .e) B in
     let A = answer (a .a) (now (a .list)) in
     let asked = take (B .askedRoom) (readBackTags (B .table .words) k) in
-    let through = tell (phased (worker (a .e) (withAsked B asked)) ReadBack) (reply.readBack (length asked)) asked in
+    let through = tell (phased (worker (a .e) (withAsked B asked)) ReadBack) (reply.readBack (length asked)) (tagBytes asked) in
     let refused = asks W RefusedTold (reply.wasRefused k (a .a .number) (a .a .message)) in
     let lost = asks W LostTold (reply.wasLost k) in
     let test : eqb (a .a .kind) 7 ≡ false = ne-eqb _ _ (c .before .before .before .before .if1 .left) in

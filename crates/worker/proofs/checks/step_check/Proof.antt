@@ -4,15 +4,14 @@ use mathlib.Core.Bool.{true, false}
 use Prim.Native.Nat.{ℕ, _/_}
 use lib.Dec.{ltb}
 use lib.Ieee.{lt}
-use lib.ListN.{length}
 use denote.Ref.{now}
 use borrow.Author.Tests.{lt-ltb, le-ltb, not-true, not-false}
+use Rattle.names.specs.Directory.{maxNames}
 use Rattle.ieee.specs.Times.{clockOk}
+use Rattle.lent.specs.Changes.{changeSize}
 use Rattle.board.specs.Board.{boardIn}
-use Rattle.board.specs.Regions.{boardSize}
 use Rattle.replies.specs.Worker.{at, worker}
 use Rattle.worker.specs.Answers.{answer, awaited, answers, contents, stepCheck}
-use Rattle.worker.proofs.StepLaws.{tags-long}
 use borrow.Author.Needs.{needs}
 use Rattle.worker.proofs.checks.step_check.Statement.{statement}
 use Rattle.worker.proofs.checks.step_check.Tie as tie
@@ -21,9 +20,7 @@ returns : tie.Need-returns
 unfolding stepCheck
 returns c =
     let a = c .before .before .before .args in
-    let size : length (now (a .board)) ≡ boardSize = search needs in
-    let room : ltb (a .room / 56) (length (boardIn (now (a .board)) .table .tags)) ≡ true =
-    ap (ltb (a .room / 56)) (tags-long (now (a .board)) size) ∙ lt-ltb _ _ (c .if1 .taken) in
+    let room : ltb (a .room / changeSize) maxNames ≡ true = lt-ltb _ _ (c .if1 .taken) in
     simp room
 
 is-clock-requires : tie.Need-is-clock-requires
@@ -33,9 +30,7 @@ returns-2 : tie.Need-returns-2
 unfolding stepCheck
 returns-2 c =
     let a = c .before .before .before .before .before .args in
-    let size : length (now (a .board)) ≡ boardSize = search needs in
-    let room : ltb (a .room / 56) (length (boardIn (now (a .board)) .table .tags)) ≡ false =
-    ap (ltb (a .room / 56)) (tags-long (now (a .board)) size) ∙ le-ltb _ _ (c .before .before .if1 .left) in
+    let room : ltb (a .room / changeSize) maxNames ≡ false = le-ltb _ _ (c .before .before .if1 .left) in
     let clock : clockOk (a .clock) ≡ false = sym (c .before .is-clock .ensures) ∙ not-true _ (c .if2 .taken) in
     simp (room, clock)
 
@@ -43,9 +38,7 @@ returns-3 : tie.Need-returns-3
 unfolding stepCheck
 returns-3 c =
     let a = c .before .before .before .before .before .before .before .args in
-    let size : length (now (a .board)) ≡ boardSize = search needs in
-    let room : ltb (a .room / 56) (length (boardIn (now (a .board)) .table .tags)) ≡ false =
-    ap (ltb (a .room / 56)) (tags-long (now (a .board)) size) ∙ le-ltb _ _ (c .before .before .before .before .if1 .left) in
+    let room : ltb (a .room / changeSize) maxNames ≡ false = le-ltb _ _ (c .before .before .before .before .if1 .left) in
     let clock : clockOk (a .clock) ≡ true = sym (c .before .before .before .is-clock .ensures) ∙ not-false _ (c .before .before .if2 .left) in
     let late : lt (a .clock) (a .e .clock) ≡ true = c .if3 .taken in
     simp (room, clock, late)
@@ -60,9 +53,7 @@ returns-4 : tie.Need-returns-4
 unfolding stepCheck
 returns-4 c =
     let a = c .before .before .before .before .before .before .before .before .before .before .before .args in
-    let size : length (now (a .board)) ≡ boardSize = search needs in
-    let room : ltb (a .room / 56) (length (boardIn (now (a .board)) .table .tags)) ≡ false =
-    ap (ltb (a .room / 56)) (tags-long (now (a .board)) size) ∙ le-ltb _ _ (c .before .before .before .before .before .before .before .before .if1 .left) in
+    let room : ltb (a .room / changeSize) maxNames ≡ false = le-ltb _ _ (c .before .before .before .before .before .before .before .before .if1 .left) in
     let clock : clockOk (a .clock) ≡ true = sym (c .before .before .before .before .before .before .before .is-clock .ensures) ∙ not-false _ (c .before .before .before .before .before .before .if2 .left) in
     let late : lt (a .clock) (a .e .clock) ≡ false = c .before .before .before .before .if3 .left in
     let x = answer (a .a) (now (a .list)) in
@@ -79,9 +70,7 @@ returns-5 : tie.Need-returns-5
 unfolding stepCheck
 returns-5 c =
     let a = c .before .before .before .before .before .before .before .before .before .before .before .before .args in
-    let size : length (now (a .board)) ≡ boardSize = search needs in
-    let room : ltb (a .room / 56) (length (boardIn (now (a .board)) .table .tags)) ≡ false =
-    ap (ltb (a .room / 56)) (tags-long (now (a .board)) size) ∙ le-ltb _ _ (c .before .before .before .before .before .before .before .before .before .if1 .left) in
+    let room : ltb (a .room / changeSize) maxNames ≡ false = le-ltb _ _ (c .before .before .before .before .before .before .before .before .before .if1 .left) in
     let clock : clockOk (a .clock) ≡ true = sym (c .before .before .before .before .before .before .before .before .is-clock .ensures) ∙ not-false _ (c .before .before .before .before .before .before .before .if2 .left) in
     let late : lt (a .clock) (a .e .clock) ≡ false = c .before .before .before .before .before .if3 .left in
     let x = answer (a .a) (now (a .list)) in

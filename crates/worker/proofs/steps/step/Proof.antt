@@ -16,6 +16,7 @@ use Rattle.replies.proofs.DoneLaws.{done-is, quiet-done}
 use Rattle.cycles.specs.Polling.{finished}
 use Rattle.worker.specs.Answers.{answer, stepCheck, handled, stepped, step}
 use Rattle.worker.proofs.StepLaws.{step-refused, step-accepted, stepped-plain}
+use Rattle.board.proofs.BoardLaws.{still-board}
 use borrow.Author.Needs.{needs}
 use Rattle.worker.proofs.steps.step.Statement.{statement}
 use Rattle.worker.proofs.steps.step.Tie as tie
@@ -59,7 +60,10 @@ handled-requires : tie.Need-handled-requires
 handled-requires c κs = search needs
 
 finish-requires : tie.Need-finish-requires
-finish-requires c κs = search needs
+finish-requires c κs =
+    let s = c .before .before .before .before .before .before .before .before .before .before .before .before .before .before .before .before .before in
+    let h = c .before .before .before .before .before .before .handled in
+    still-board (h .last .0) (now (s .args .board)) (h .kept .0) (s .pre)
 
 same-length-2 : tie.Need-same-length-2
 same-length-2 c = search needs

@@ -1,0 +1,23 @@
+-- `board::tag::settings_of` meets its contract.
+use mathlib.Core.Path.{ap, _∙_}
+use Rattle.table.specs.declared.tag.Tag.{Tag}
+use denote.Ref.{now}
+use Rattle.board.proofs.BoardLaws.{tag-read}
+use borrow.Author.Needs.{needs}
+use Rattle.board.proofs.tag.settings_of.Statement.{statement}
+use Rattle.board.proofs.tag.settings_of.Tie as tie
+
+table-of-requires : tie.Need-table-of-requires
+table-of-requires c κs = search needs
+
+settings-of-requires : tie.Need-settings-of-requires
+settings-of-requires c κs = search needs
+
+returns : tie.Need-returns
+returns c =
+    let a = c .before .before .before .args in
+    let t = c .before .table-of in
+    c .settings-of .ensures ∙ ap (λ (x : Tag). x .settings) (tag-read (now (a .b)) (now (t .result)) (a .k) (t .ensures))
+
+pub settings-of-spec : {M : Type 1} → statement M
+settings-of-spec = tie.close (tie.spec table-of-requires settings-of-requires returns)

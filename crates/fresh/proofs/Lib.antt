@@ -1,0 +1,2 @@
+-- What zeros hold.
+pub mod FreshLaws

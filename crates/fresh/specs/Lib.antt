@@ -1,0 +1,2 @@
+-- A fresh board.
+pub mod Fresh

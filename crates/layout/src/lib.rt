@@ -1,0 +1,1 @@
+// Memory in parts, one after the other: definitions and laws alone.

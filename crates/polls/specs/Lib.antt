@@ -1,3 +1,0 @@
--- What polling does to the board.
-pub mod Polls
-pub mod Lending

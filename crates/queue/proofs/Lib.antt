@@ -1,0 +1,2 @@
+-- Laws of the queue of writes.
+pub mod QueueLaws

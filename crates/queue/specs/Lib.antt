@@ -1,0 +1,2 @@
+-- Rule 8: the writes that wait.
+pub mod Queue

@@ -1,2 +1,0 @@
--- Laws of the board after what is asked beside the rounds.
-pub mod TalkLaws

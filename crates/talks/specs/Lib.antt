@@ -1,2 +1,0 @@
--- Read-backs and descriptions.
-pub mod Talks
