@@ -335,9 +335,9 @@ impl Port<'_> {
             _ => waited,
         };
         let engine = &mut self.engine;
-        if named != waited {
+        if named != waited && ["read", "readback", "write"].contains(&waited) {
             // the functions have one kind for results, and one for a loss; here another that isn't waited for stands for it
-            return engine.step(clock, now, if waited.is_empty() { To::Taken } else { To::Begin });
+            return engine.step(clock, now, To::Begin);
         }
         match answer {
             Ans::Begin => engine.step(clock, now, To::Begin),

@@ -245,7 +245,8 @@ fn lists(mem: &mut [u8]) {
     want(0, ffi::tag(mem, 1).code, "tag");
 }
 
-/// Writes before and after the connection; results that are not finite; settings in an answer; an error that stands for nothing.
+/// Writes before and after the connection; results that are not finite; settings in an answer; an error that stands for nothing;
+/// a read-back with a value beside its error.
 fn steps(mem: &mut [u8], given: &Given) {
     let handed = bytes(&given.settings);
     let step = |mem: &mut [u8], answer: [u64; 3], list: &[u8], number: u64, kind: u64| {
@@ -277,6 +278,14 @@ fn steps(mem: &mut [u8], given: &Given) {
     step(mem, [8, 0, 0], &[], 41, 0);
     step(mem, [8, 65539, 0], &[], 41, 0);
     step(mem, [8, 65538, u64::from(u32::MAX)], &[], 0, 12);
+    step(mem, [12, 0, 0], &[], 0, 4);
+    step(mem, [7, 0, 0], &[], 0, 5);
+    let beside = bytes(&[3, 1.5f64.to_bits(), 5, 9]);
+    let told = ffi::step(mem, 7.0, 1000, [5, 0, 0], &beside, &mut [0; LIST]);
+    assert_eq!([0, 12, 0, 0], [told.code, told.kind, told.value.kind, told.value.word], "a value beside an error does not count");
+    step(mem, [12, 0, 0], &[], 0, 8);
+    step(mem, [12, 0, 0], &[], 0, 4);
+    step(mem, [8, 1, 7], &[], 0, 12);
     want(0, ffi::stop(mem).into(), "stop");
     step(mem, [12, 0, 0], &[], 0, 4);
     step(mem, [6, 0, 0], &[], 0, 12);

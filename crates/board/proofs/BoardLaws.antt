@@ -1,7 +1,7 @@
 -- The board after one part of it was lent and given back: what that part holds is new, and all else stays.
 use mathlib.Core.Path.{_≡_, refl, ap, sym, _∙_}
 use mathlib.Core.List.{List}
-use Prim.Native.Nat.{ℕ, suc, _+_, _-_, _≤_, _<_}
+use Prim.Native.Nat.{ℕ, suc, _+_, _*_, _-_, _≤_, _<_}
 use native.Mathlib.Omega.{arith}
 use borrow.Rule.Slice.PartMut.{putMid, same-len-mid}
 use lib.ListN.{length, getD, set}
@@ -10,6 +10,7 @@ use Rattle.memory.specs.Halves.{halvesIn}
 use Rattle.memory.proofs.HalfLaws.{half-small}
 use Rattle.tags.specs.Lists.{listIn, room}
 use Rattle.tags.proofs.ListLaws.{room-same, list-short, list-small, list-below}
+use Rattle.names.specs.Directory.{maxNames}
 use Rattle.table.specs.Tag.{freshTag}
 use Rattle.table.specs.Table.{tableIn}
 use Rattle.table.specs.declared.tag.Tag.{Tag}
@@ -18,28 +19,27 @@ use Rattle.groups.specs.Groups.{groupsIn}
 use Rattle.groups.specs.declared.group.Group.{Group}
 use Rattle.settings.specs.Configured.{configuredIn}
 use Rattle.settings.specs.declared.configured.Configured.{Configured}
-use Rattle.queue.specs.Queue.{queueIn, queueRoom}
+use Rattle.queue.specs.Queue.{queueIn, queueRoom, writeRoom}
 use Rattle.queue.specs.declared.Write.{Write}
-use Rattle.queue.proofs.QueueLaws.{queue-room-same}
 use Rattle.layout.specs.Parts.{part, startOf, sizeOf, total, parts, replaced}
 use Rattle.layout.proofs.PartLaws.{part-length, part-between, parts-within, put-part}
-use Rattle.board.specs.Layout.{sizes, back, recorded, configured, queue, groups, table, order, graces, asked, keys, words, boardSize, tagsFor, tagsIn, IsBoard, partsIn}
+use Rattle.board.specs.Layout.{sizes, back, recorded, configured, queue, groups, table, order, graces, asked, keys, words, boardSize, tagSize, tagsFor, tagsIn, IsBoard, partsIn}
 use Rattle.board.specs.Board.{Board, Holds, tagAt, boardFrom, boardIn, withRecords, withTag, withOrder, withGraces, withWords, withAsked, withGroupRows, withRecorded, withKeys, withConfigured, withQueue, withBack}
 
 -- memory of the same length is a board too
 pub still-board : (new old : List ℕ) → length new ≡ length old → IsBoard old → IsBoard new
 still-board new old e h = (omega arith, (omega arith, omega arith))
 
--- the sizes of the parts come to that of the board
-pub sizes-are : (c : ℕ) → total (sizes c) ≡ boardSize c
-sizes-are c = omega arith
+-- each tag adds as many bytes as the first
+pub size-grows : (c : ℕ) → boardSize c ≡ boardSize 0 + tagSize * c
+size-grows c = omega arith
 
 -- how long part i is
 pub size-of-part : (i : ℕ) (bs : List ℕ) → IsBoard bs → length (partsIn bs i) ≡ sizeOf (sizes (tagsIn bs)) i
 unfolding partsIn
 size-of-part i bs h =
     let ns = sizes (tagsIn bs) in
-    part-length (startOf ns i) (sizeOf ns i) bs (omega (arith, h .0, sizes-are (tagsIn bs), parts-within ns i))
+    part-length (startOf ns i) (sizeOf ns i) bs (omega (arith, h .0, parts-within ns i))
 
 -- the table has a row for each tag
 pub tags-counted : (bs : List ℕ) → IsBoard bs → length (boardIn bs .table .tags) ≡ tagsIn bs
@@ -61,7 +61,7 @@ module _ (i : ℕ) (bs : List ℕ) (a e : ℕ) (ea : a ≡ startOf (sizes (tagsI
   unfolding partsIn
   part-back y h l =
       let ns = sizes (tagsIn bs) in
-      let whole : length bs ≡ total ns = h .0 ∙ sym (sizes-are (tagsIn bs)) in
+      let whole : length bs ≡ total ns = h .0 in
       let in-room : a + (e - a) ≤ length bs = omega (arith, ea, wide, whole, parts-within ns i) in
       let long : length y ≡ sizeOf ns i = l ∙ part-length a (e - a) bs in-room ∙ wide in
       ap (λ (m : ℕ). parts (sizes (tagsFor m)) (putMid a (e - a) bs y)) (same-len-mid a (e - a) bs y l)
@@ -141,30 +141,35 @@ pub word-small : (bs : List ℕ) (k : ℕ) → getD (boardIn bs .table .words) k
 unfolding boardIn boardFrom
 word-small bs k = half-small (partsIn bs words) k
 
--- as many tags are asked for as there is room
-pub asked-short : (bs : List ℕ) → length (boardIn bs .asked) ≤ boardIn bs .askedRoom
+-- ---- room
+
+-- a list of tags has room for each tag
+list-room : (i : ℕ) (bs : List ℕ) → IsBoard bs → sizeOf (sizes (tagsIn bs)) i ≡ 2 * tagsIn bs + 2 → room (partsIn bs i) ≡ tagsIn bs
+list-room i bs h e = omega (arith, size-of-part i bs h)
+
+pub room-is : (bs : List ℕ) → IsBoard bs → boardIn bs .table .room ≡ tagsIn bs
 unfolding boardIn boardFrom
-asked-short bs = list-short (partsIn bs asked)
+room-is bs h = list-room order bs h refl
+
+pub room-few : (bs : List ℕ) → IsBoard bs → boardIn bs .table .room ≤ maxNames
+room-few bs h = omega (arith, room-is bs h)
+
+-- so that none of them is longer
+pub order-short : (bs : List ℕ) → IsBoard bs → length (boardIn bs .table .order) ≤ boardIn bs .table .room
+unfolding boardIn boardFrom
+order-short bs h = list-short (partsIn bs order)
+
+pub graces-short : (bs : List ℕ) → IsBoard bs → length (boardIn bs .table .graces) ≤ boardIn bs .table .room
+unfolding boardIn boardFrom
+graces-short bs h = omega (arith, list-short (partsIn bs graces), list-room graces bs h refl, list-room order bs h refl)
+
+pub asked-short : (bs : List ℕ) → IsBoard bs → length (boardIn bs .asked) ≤ boardIn bs .table .room
+unfolding boardIn boardFrom
+asked-short bs h = omega (arith, list-short (partsIn bs asked), list-room asked bs h refl, list-room order bs h refl)
 
 pub asked-few : (bs : List ℕ) → length (boardIn bs .asked) ≤ 65535
 unfolding boardIn boardFrom
 asked-few bs = omega (arith, list-short (partsIn bs asked))
-
--- ---- lists to work in, as long as the one of the tags asked for
-
-pub asked-room : (bs list : List ℕ) → length list ≡ length (partsIn bs asked) → room list ≡ boardIn bs .askedRoom
-unfolding boardIn boardFrom
-asked-room bs list e = room-same list (partsIn bs asked) e
-
--- r is that one, lent: it is within 2,048 bytes
-pub asked-within : (bs r : List ℕ) → IsBoard bs → r ≡ partsIn bs asked → length r ≤ 2048
-asked-within bs r h e = rw e (omega (arith, size-of-part asked bs h))
-
--- and so many bytes, lent from 0 to its length, are as long
-pub cut-list : (bs r list : List ℕ) → IsBoard bs → r ≡ partsIn bs asked → length list ≡ 2048 → length (part 0 (length r - 0) list) ≡ length (partsIn bs asked)
-cut-list bs r list h e l =
-    let long : length r - 0 ≡ length (partsIn bs asked) = rw e (omega arith) in
-    part-length 0 (length r - 0) list (omega (arith, l, asked-within bs r h e)) ∙ long
 
 -- ---- the board with one part replaced
 
@@ -192,21 +197,21 @@ order-of : (P : ℕ → List ℕ) (y : List ℕ) (x : List ℕ) → room y ≡ r
 unfolding boardFrom
 order-of P y x r e = rw (r, e) refl
 
-graces-of : (P : ℕ → List ℕ) (y : List ℕ) (x : List ℕ) → room y ≡ room (P graces) → listIn y ≡ x → boardFrom (replaced P graces y) ≡ withGraces (boardFrom P) x
+graces-of : (P : ℕ → List ℕ) (y : List ℕ) (x : List ℕ) → listIn y ≡ x → boardFrom (replaced P graces y) ≡ withGraces (boardFrom P) x
 unfolding boardFrom
-graces-of P y x r e = rw (r, e) refl
+graces-of P y x e = rw e refl
 
-asked-of : (P : ℕ → List ℕ) (y : List ℕ) (x : List ℕ) → room y ≡ room (P asked) → listIn y ≡ x → boardFrom (replaced P asked y) ≡ withAsked (boardFrom P) x
+asked-of : (P : ℕ → List ℕ) (y : List ℕ) (x : List ℕ) → listIn y ≡ x → boardFrom (replaced P asked y) ≡ withAsked (boardFrom P) x
 unfolding boardFrom
-asked-of P y x r e = rw (r, e) refl
+asked-of P y x e = rw e refl
 
 recorded-of : (P : ℕ → List ℕ) (y : List ℕ) (x : List ℕ) → room y ≡ room (P recorded) → listIn y ≡ x → boardFrom (replaced P recorded y) ≡ withRecorded (boardFrom P) x
 unfolding boardFrom
 recorded-of P y x r e = rw (r, e) refl
 
-queue-of : (P : ℕ → List ℕ) (y : List ℕ) (x : List Write) → queueRoom y ≡ queueRoom (P queue) → queueIn y ≡ x → boardFrom (replaced P queue y) ≡ withQueue (boardFrom P) x
+queue-of : (P : ℕ → List ℕ) (y : List ℕ) (x : List Write) → queueIn y ≡ x → boardFrom (replaced P queue y) ≡ withQueue (boardFrom P) x
 unfolding boardFrom
-queue-of P y x r e = rw (r, e) refl
+queue-of P y x e = rw e refl
 
 back-of : (P : ℕ → List ℕ) (y : List ℕ) → boardFrom (replaced P back y) ≡ withBack (boardFrom P) y
 unfolding boardFrom
@@ -266,7 +271,7 @@ module _ (bs y : List ℕ) (h : IsBoard bs) (a e : ℕ) where
 
   pub order-put : a ≡ startOf (sizes (tagsIn bs)) order → e ≡ startOf (sizes (tagsIn bs)) (suc order)
       → (f : ℕ → List ℕ → List ℕ) → length y ≡ length (part a (e - a) bs) → listIn y ≡ f (room (part a (e - a) bs)) (listIn (part a (e - a) bs))
-      → Holds (putMid a (e - a) bs y) (withOrder (boardIn bs) (f (boardIn bs .table .orderRoom) (boardIn bs .table .order)))
+      → Holds (putMid a (e - a) bs y) (withOrder (boardIn bs) (f (boardIn bs .table .room) (boardIn bs .table .order)))
   unfolding boardIn boardFrom
   order-put ea ee f l d =
       let same = part-lent order bs a e ea ee in
@@ -275,21 +280,23 @@ module _ (bs y : List ℕ) (h : IsBoard bs) (a e : ℕ) where
 
   pub graces-put : a ≡ startOf (sizes (tagsIn bs)) graces → e ≡ startOf (sizes (tagsIn bs)) (suc graces)
       → (f : ℕ → List ℕ → List ℕ) → length y ≡ length (part a (e - a) bs) → listIn y ≡ f (room (part a (e - a) bs)) (listIn (part a (e - a) bs))
-      → Holds (putMid a (e - a) bs y) (withGraces (boardIn bs) (f (boardIn bs .table .graceRoom) (boardIn bs .table .graces)))
+      → Holds (putMid a (e - a) bs y) (withGraces (boardIn bs) (f (boardIn bs .table .room) (boardIn bs .table .graces)))
   unfolding boardIn boardFrom
   graces-put ea ee f l d =
-      let same = part-lent graces bs a e ea ee in
+      let same : room (partsIn bs graces) ≡ room (partsIn bs order) = list-room graces bs h refl ∙ sym (list-room order bs h refl) in
       holds-back bs y a e h l (ap boardFrom (part-back graces bs a e ea ee y h l)
-      ∙ graces-of (partsIn bs) y (f (room (partsIn bs graces)) (listIn (partsIn bs graces))) (room-same y (part a (e - a) bs) l ∙ ap room same) (d ∙ ap (λ (z : List ℕ). f (room z) (listIn z)) same))
+      ∙ graces-of (partsIn bs) y (f (room (partsIn bs order)) (listIn (partsIn bs graces)))
+      (d ∙ ap (λ (z : List ℕ). f (room z) (listIn z)) (part-lent graces bs a e ea ee) ∙ ap (λ (n : ℕ). f n (listIn (partsIn bs graces))) same))
 
   pub asked-put : a ≡ startOf (sizes (tagsIn bs)) asked → e ≡ startOf (sizes (tagsIn bs)) (suc asked)
       → (f : ℕ → List ℕ → List ℕ) → length y ≡ length (part a (e - a) bs) → listIn y ≡ f (room (part a (e - a) bs)) (listIn (part a (e - a) bs))
-      → Holds (putMid a (e - a) bs y) (withAsked (boardIn bs) (f (boardIn bs .askedRoom) (boardIn bs .asked)))
+      → Holds (putMid a (e - a) bs y) (withAsked (boardIn bs) (f (boardIn bs .table .room) (boardIn bs .asked)))
   unfolding boardIn boardFrom
   asked-put ea ee f l d =
-      let same = part-lent asked bs a e ea ee in
+      let same : room (partsIn bs asked) ≡ room (partsIn bs order) = list-room asked bs h refl ∙ sym (list-room order bs h refl) in
       holds-back bs y a e h l (ap boardFrom (part-back asked bs a e ea ee y h l)
-      ∙ asked-of (partsIn bs) y (f (room (partsIn bs asked)) (listIn (partsIn bs asked))) (room-same y (part a (e - a) bs) l ∙ ap room same) (d ∙ ap (λ (z : List ℕ). f (room z) (listIn z)) same))
+      ∙ asked-of (partsIn bs) y (f (room (partsIn bs order)) (listIn (partsIn bs asked)))
+      (d ∙ ap (λ (z : List ℕ). f (room z) (listIn z)) (part-lent asked bs a e ea ee) ∙ ap (λ (n : ℕ). f n (listIn (partsIn bs asked))) same))
 
   pub recorded-put : a ≡ startOf (sizes (tagsIn bs)) recorded → e ≡ startOf (sizes (tagsIn bs)) (suc recorded)
       → (f : ℕ → List ℕ → List ℕ) → length y ≡ length (part a (e - a) bs) → listIn y ≡ f (room (part a (e - a) bs)) (listIn (part a (e - a) bs))
@@ -302,12 +309,13 @@ module _ (bs y : List ℕ) (h : IsBoard bs) (a e : ℕ) where
 
   pub queue-put : a ≡ startOf (sizes (tagsIn bs)) queue → e ≡ startOf (sizes (tagsIn bs)) (suc queue)
       → (f : ℕ → List Write → List Write) → length y ≡ length (part a (e - a) bs) → queueIn y ≡ f (queueRoom (part a (e - a) bs)) (queueIn (part a (e - a) bs))
-      → Holds (putMid a (e - a) bs y) (withQueue (boardIn bs) (f (boardIn bs .queueRoom) (boardIn bs .queue)))
+      → Holds (putMid a (e - a) bs y) (withQueue (boardIn bs) (f writeRoom (boardIn bs .queue)))
   unfolding boardIn boardFrom
   queue-put ea ee f l d =
-      let same = part-lent queue bs a e ea ee in
+      let same : queueRoom (partsIn bs queue) ≡ writeRoom = omega (arith, size-of-part queue bs h) in
       holds-back bs y a e h l (ap boardFrom (part-back queue bs a e ea ee y h l)
-      ∙ queue-of (partsIn bs) y (f (queueRoom (partsIn bs queue)) (queueIn (partsIn bs queue))) (queue-room-same y (part a (e - a) bs) l ∙ ap queueRoom same) (d ∙ ap (λ (z : List ℕ). f (queueRoom z) (queueIn z)) same))
+      ∙ queue-of (partsIn bs) y (f writeRoom (queueIn (partsIn bs queue)))
+      (d ∙ ap (λ (z : List ℕ). f (queueRoom z) (queueIn z)) (part-lent queue bs a e ea ee) ∙ ap (λ (n : ℕ). f n (queueIn (partsIn bs queue))) same))
 
   pub back-put : a ≡ startOf (sizes (tagsIn bs)) back → e ≡ startOf (sizes (tagsIn bs)) (suc back)
       → (f : List ℕ → List ℕ) → length y ≡ length (part a (e - a) bs) → y ≡ f (part a (e - a) bs)

@@ -5,7 +5,7 @@ use mathlib.Core.Path.{_≡_}
 use Prim.Native.Nat.{ℕ, _+_, _*_, _-_, _/_, _≤_}
 use lib.Dec.{eqb, leb}
 use lib.ListN.{length}
-use Rattle.layout.specs.Parts.{parts}
+use Rattle.layout.specs.Parts.{parts, total}
 use Rattle.names.specs.Directory.{maxNames}
 
 -- The parts of a board for c tags, in bytes. A new part is a line here and a number below.
@@ -62,11 +62,15 @@ words = 10
 
 -- how many bytes a board for c tags has
 abbrev pub boardSize : ℕ → ℕ
-boardSize c = 2886 + 266 * c
+boardSize c = total (sizes c)
+
+-- what each tag adds to it
+abbrev pub tagSize : ℕ
+tagSize = boardSize 1 - boardSize 0
 
 -- how many tags memory of n bytes is for
 abbrev pub tagsFor : ℕ → ℕ
-tagsFor n = (n - 2886) / 266
+tagsFor n = (n - boardSize 0) / tagSize
 
 abbrev pub tagsIn : List ℕ → ℕ
 tagsIn bs = tagsFor (length bs)

@@ -22,10 +22,10 @@ const ROW: usize = 256;
 
 const NUMBER: usize = 2;
 
-// All of them, with no tag, and for each tag.
-const FIXED: usize = 2886;
+// All of them: with no tag, and what each tag adds.
+const FIXED: usize = BACK + RECORDED + CONFIGURED + QUEUE + GROUPS + 3 * NUMBER;
 
-const PER_TAG: usize = 266;
+const PER_TAG: usize = ROW + 5 * NUMBER;
 
 // How many bytes a board for so many tags has.
 pub fn size_for(count: usize) -> usize

@@ -37,7 +37,7 @@ pub fn order_at(b: &[u8], i: usize) -> usize
 
 pub fn push_order(b: &mut [u8], k: u16)
     requires { ⌜ IsBoard (now b) ⌝ }
-    ensures { λ _. ⌜ Holds (now (b .exit)) (withOrder (boardIn (now (b .entry))) (pushed (boardIn (now (b .entry)) .table .orderRoom) (boardIn (now (b .entry)) .table .order) k)) ⌝ }
+    ensures { λ _. ⌜ Holds (now (b .exit)) (withOrder (boardIn (now (b .entry))) (pushed (boardIn (now (b .entry)) .table .room) (boardIn (now (b .entry)) .table .order) k)) ⌝ }
 {
     let start = order_start(b);
     let end = graces_start(b);
@@ -55,7 +55,7 @@ pub fn remove_order(b: &mut [u8], k: u16)
 
 pub fn push_grace(b: &mut [u8], k: u16)
     requires { ⌜ IsBoard (now b) ⌝ }
-    ensures { λ _. ⌜ Holds (now (b .exit)) (withGraces (boardIn (now (b .entry))) (pushed (boardIn (now (b .entry)) .table .graceRoom) (boardIn (now (b .entry)) .table .graces) k)) ⌝ }
+    ensures { λ _. ⌜ Holds (now (b .exit)) (withGraces (boardIn (now (b .entry))) (pushed (boardIn (now (b .entry)) .table .room) (boardIn (now (b .entry)) .table .graces) k)) ⌝ }
 {
     let start = graces_start(b);
     let end = asked_start(b);
@@ -89,7 +89,7 @@ pub fn asked_at(b: &[u8], i: usize) -> usize
 
 pub fn push_asked(b: &mut [u8], k: u16)
     requires { ⌜ IsBoard (now b) ⌝ }
-    ensures { λ _. ⌜ Holds (now (b .exit)) (withAsked (boardIn (now (b .entry))) (pushed (boardIn (now (b .entry)) .askedRoom) (boardIn (now (b .entry)) .asked) k)) ⌝ }
+    ensures { λ _. ⌜ Holds (now (b .exit)) (withAsked (boardIn (now (b .entry))) (pushed (boardIn (now (b .entry)) .table .room) (boardIn (now (b .entry)) .asked) k)) ⌝ }
 {
     let start = asked_start(b);
     let end = keys_start(b);

@@ -3,7 +3,7 @@ ghost use mathlib.Core.List.{[]};
 ghost use mathlib.Core.Path.{_≡_};
 ghost use lib.ListN.{length};
 ghost use Rattle.lent.specs.Lent.{overBytes};
-ghost use Rattle.queue.specs.Queue.{queuedWith, popped, rest};
+ghost use Rattle.queue.specs.Queue.{queuedWith, writeRoom, popped, rest};
 ghost use Rattle.board.specs.Layout.{IsBoard};
 ghost use Rattle.board.specs.Board.{Holds, boardIn, withQueue, withBack};
 use super::parts::queue_of;
@@ -23,7 +23,7 @@ pub fn queued(b: &[u8]) -> usize
 
 pub fn push_write(b: &mut [u8], w: Write)
     requires { ⌜ IsBoard (now b) ⌝ }
-    ensures { λ _. ⌜ Holds (now (b .exit)) (withQueue (boardIn (now (b .entry))) (queuedWith (boardIn (now (b .entry)) .queueRoom) (boardIn (now (b .entry)) .queue) w)) ⌝ }
+    ensures { λ _. ⌜ Holds (now (b .exit)) (withQueue (boardIn (now (b .entry))) (queuedWith writeRoom (boardIn (now (b .entry)) .queue) w)) ⌝ }
 {
     let start = queue_start(b);
     let end = groups_start(b);

@@ -1,22 +1,31 @@
 -- What a call comes to: memory of another length, a refusal, or the work done.
 use mathlib.Core.Path.{_≡_, refl, ap, ap₂, sym, _∙_}
 use mathlib.Core.Bool.{Bool, true, false, cond, _||_, true≢false}
-use mathlib.Core.List.{List, []}
+use mathlib.Core.List.{List, [], _∷_, _++_}
 use Prim.Native.Nat.{ℕ, _-_, _≤_, _<_}
 use native.Mathlib.Omega.{arith}
 use borrow.Rule.Slice.PartMut.{putMid, put-same}
 use lib.Dec.{eqb, ltb}
-use lib.ListN.{length}
+use lib.ListN.{length, take}
+use lib.Seq.{take-all}
 use borrow.Author.Tests.{eqb-true, eqb-false, ltb-false, eq-eqb, ne-eqb, lt-ltb, le-ltb}
 use Rattle.names.specs.Directory.{badCount, maxNames}
+use Rattle.checks.specs.Calls.{maxWrites}
 use Rattle.checks.specs.Creation.{Setup, creationCheck}
+use Rattle.checks.proofs.Laws.{groups-few}
+use Rattle.settings.specs.Configured.{givenGroups}
+use Rattle.queue.specs.Queue.{queuedWith, writeRoom}
+use Rattle.queue.specs.declared.Write.{Write}
+use Rattle.board.specs.Board.{withQueue, withConfigured}
+use Rattle.fresh.specs.Fresh.{configuredRoom, freshBoard}
 use Rattle.engine.specs.declared.Engine.{Engine}
 use Rattle.lent.specs.Lent.{wroteAll}
 use Rattle.replies.specs.Reply as reply
-use Rattle.replies.specs.Worker.{Worker, Told, At, worker, tell}
+use Rattle.replies.specs.Worker.{Worker, Told, At, worker, withBoard, tell}
 use Rattle.replies.specs.declared.reply.Reply.{Reply}
 use Rattle.replies.specs.declared.reply.Said.{Said}
-use Rattle.worker.specs.Answers.{Answer, stepCheck, stepped, step, Stepped as StepDone}
+use Rattle.step_checks.specs.Awaited.{Answer, stepCheck}
+use Rattle.worker.specs.Steps.{stepped, step, Stepped as StepDone}
 use Rattle.worker.proofs.StepLaws.{stepped-plain}
 use Rattle.capi.specs.Memory.{headSize, memorySize, notAnEngine, sizeCheck, IsEngine, boardBytes, workerIn, Called}
 use Rattle.capi.specs.Creation.{creationAnswer, freshWorker, Created}
@@ -50,7 +59,19 @@ done-call old new n W h e d l = record {
   long = l;
 }
 
+-- ---- a write
+
+-- one that is accepted finds room, and stands last
+pub queued-last : (W : Worker) (w : Write) → length (W .board .queue) < maxWrites
+    → withBoard W (withQueue (W .board) (queuedWith writeRoom (W .board .queue) w)) ≡ withBoard W (withQueue (W .board) (W .board .queue ++ (w ∷ [])))
+queued-last W w h = rw (lt-ltb (length (W .board .queue)) writeRoom (omega arith)) refl
+
 -- ---- creation
+
+-- the groups that creation accepts find room
+pub all-configured : (s : Setup) → creationCheck s ≡ 0 → withConfigured (freshWorker s .board) (take configuredRoom (givenGroups (s .groups))) ≡ freshWorker s .board
+unfolding freshBoard
+all-configured s e = ap (withConfigured (freshWorker s .board)) (take-all configuredRoom (givenGroups (s .groups)) (omega (arith, groups-few s e)))
 
 module _ (s : Setup) where
   count-bad : (b c : Bool) → eqb (length (s .ends)) 0 ≡ b → ltb maxNames (length (s .ends)) ≡ c → badCount maxNames (s .ends) ≡ (b || c)

@@ -9,12 +9,12 @@ use lib.Ieee.{Float}
 use lib.IntN.{ℤ}
 use lib.ListN.{length}
 use Rattle.words.specs.Value.{valueFrom}
-use Rattle.rounds.specs.declared.tick.Options.{Options}
+use Rattle.heads.specs.declared.options.Options.{Options}
 use Rattle.lent.specs.Lent.{wroteAll, records}
 use Rattle.replies.specs.Worker.{Worker, at, Told}
 use Rattle.replies.specs.Reply as reply
 use Rattle.replies.specs.declared.reply.Reply.{Reply}
-use Rattle.worker.specs.Answers.{step}
+use Rattle.worker.specs.Steps.{step}
 use Rattle.shown.specs.Looks.{listed, leftIn, panelLeft, rowCells}
 use Rattle.shown.specs.declared.head.StateLook.{StateLook}
 use Rattle.shown.specs.declared.head.StatsLook.{StatsLook}

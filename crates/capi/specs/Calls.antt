@@ -1,6 +1,6 @@
 -- Tier calls, loads, writes, stops and steps.
 use mathlib.Core.Bool.{false}
-use mathlib.Core.List.{List}
+use mathlib.Core.List.{List, [], _∷_, _++_}
 use mathlib.Core.Path.{_≡_}
 use Prim.Native.Nat.{ℕ}
 use lib.Dec.{eqb}
@@ -9,7 +9,6 @@ use lib.ListN.{length}
 use Rattle.values.specs.declared.value.Value.{Value}
 use Rattle.tiers.specs.Tiers.{setTier}
 use Rattle.panel.specs.Panel.{loadedList}
-use Rattle.queue.specs.Queue.{queuedWith}
 use Rattle.queue.specs.declared.Write.{Write}
 use Rattle.heads.specs.Link.{stopped}
 use Rattle.engine.specs.Engine.{withClock}
@@ -19,7 +18,7 @@ use Rattle.replies.specs.Reply as reply
 use Rattle.replies.specs.Worker.{Worker, Told, worker, withBoard, linked}
 use Rattle.replies.specs.declared.reply.Reply.{Reply}
 use Rattle.replies.specs.declared.reply.Said.{Said}
-use Rattle.worker.specs.Answers.{Answer}
+use Rattle.step_checks.specs.Awaited.{Answer}
 use Rattle.capi.specs.Memory.{IsEngine, notAnEngine, workerIn}
 
 -- Rule 5: a tier call that is accepted
@@ -35,7 +34,7 @@ writeOf tag v = record { tag = tag; value = v }
 
 -- Rule 8: a write that is accepted stands last in the queue
 abbrev pub wrote : Worker → ℕ → Value → Worker
-wrote W tag v = withBoard W (withQueue (W .board) (queuedWith (W .board .queueRoom) (W .board .queue) (writeOf tag v)))
+wrote W tag v = withBoard W (withQueue (W .board) (W .board .queue ++ (writeOf tag v ∷ [])))
 
 -- Rule 9: a stop is asked for
 abbrev pub halted : Worker → Worker

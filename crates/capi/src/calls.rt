@@ -2,7 +2,7 @@
 ghost use lib.ListN.{length};
 ghost use Rattle.words.specs.Value.{valueFrom};
 ghost use Rattle.replies.specs.Worker.{at};
-ghost use Rattle.worker.specs.Answers.{step};
+ghost use Rattle.worker.specs.Steps.{step};
 ghost use Rattle.capi.specs.Memory.{workerIn, Called};
 ghost use Rattle.checks.specs.Calls.{tierCheck, loadCheck, writeCheck};
 ghost use Rattle.capi.specs.Calls.{tiered, loaded, wrote, halted, answerOf, Stepped};
@@ -21,8 +21,8 @@ use engine::with_link;
 use heads::link::stopped;
 use queue::Write;
 use replies::reply::Reply;
+use step_checks::awaiting::Answer;
 use words::value::value_from;
-use worker::checks::Answer;
 
 // A tier call.
 #[no_mangle]

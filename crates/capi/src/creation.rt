@@ -6,8 +6,8 @@ use super::whole::memory_size;
 use super::whole::put_head;
 use checks::creation::creation_check;
 use engine::Engine;
+use heads::options::Options;
 use names::directory::MAX_NAMES;
-use rounds::tick::Options;
 
 // An engine in lent memory, whose length goes by the number of names. The names and all else that is handed in are needed
 // for this call alone.

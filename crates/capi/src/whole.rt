@@ -1,16 +1,18 @@
 // An engine's memory: the head in front, the board behind it. Each rule is lent its own part.
 ghost use mathlib.Core.Path.{_≡_};
 ghost use Prim.Native.Nat.{_≤_};
-ghost use lib.ListN.{length};
+ghost use lib.ListN.{length, take};
 ghost use Rattle.engine.specs.Engine.{withClock};
 ghost use Rattle.tiers.specs.Tiers.{setTier};
 ghost use Rattle.panel.specs.Panel.{loadedList};
-ghost use Rattle.queue.specs.Queue.{queuedWith};
+ghost use Rattle.settings.specs.Configured.{givenGroups};
+ghost use Rattle.queue.specs.Queue.{queuedWith, writeRoom};
 ghost use Rattle.board.specs.Layout.{IsBoard};
-ghost use Rattle.board.specs.Board.{withTable, withQueue};
-ghost use Rattle.fresh.specs.Fresh.{freshBoard};
+ghost use Rattle.board.specs.Board.{withTable, withQueue, withConfigured};
+ghost use Rattle.fresh.specs.Fresh.{configuredRoom, freshBoard};
 ghost use Rattle.replies.specs.Worker.{worker, withBoard, at};
-ghost use Rattle.worker.specs.Answers.{step, answer};
+ghost use Rattle.step_checks.specs.Awaited.{answer};
+ghost use Rattle.worker.specs.Steps.{step};
 ghost use Rattle.checks.specs.Calls.{loadCheck, writeCheck};
 ghost use Rattle.names.specs.Directory.{maxNames};
 ghost use Rattle.capi.specs.Memory.{memorySize, sizeCheck, IsEngine, boardBytes, workerIn};
@@ -22,8 +24,8 @@ use engine::load;
 use engine::store;
 use queue::Write;
 use replies::reply::Said;
+use step_checks::awaiting::Answer;
 use values::value::Value;
-use worker::checks::Answer;
 
 // The bytes of the head, and the answer to memory that no engine has the length of.
 const HEAD: usize = 256;
@@ -113,7 +115,7 @@ pub fn load_panel(mem: &mut [u8], list: &[u8], grace: f64, clock: f64)
 
 pub fn push_write(mem: &mut [u8], w: Write)
     requires { ⌜ IsEngine (now mem) ⌝ }
-    ensures { λ _. ⌜ workerIn (now (mem .exit)) ≡ withBoard (workerIn (now (mem .entry))) (withQueue (workerIn (now (mem .entry)) .board) (queuedWith (workerIn (now (mem .entry)) .board .queueRoom) (workerIn (now (mem .entry)) .board .queue) w)) ⌝ }
+    ensures { λ _. ⌜ workerIn (now (mem .exit)) ≡ withBoard (workerIn (now (mem .entry))) (withQueue (workerIn (now (mem .entry)) .board) (queuedWith writeRoom (workerIn (now (mem .entry)) .board .queue) w)) ⌝ }
 {
     let end = mem.len();
     board::waiting::push_write(&mut mem[HEAD..end], w);
@@ -123,7 +125,7 @@ pub fn create<'a>(mem: &mut [u8], names: &'a [u8], ends: &'a [u32], settings: &[
     requires { ⌜ length (now mem) ≡ memorySize (length (now ends)) ⌝ }
     requires { ⌜ 1 ≤ length (now ends) ⌝ }
     requires { ⌜ length (now ends) ≤ maxNames ⌝ }
-    ensures { λ _. ⌜ workerIn (now (mem .exit)) .board ≡ freshBoard (now (names .entry)) (now (ends .entry)) (now (settings .entry)) (now (groups .entry)) ⌝ }
+    ensures { λ _. ⌜ workerIn (now (mem .exit)) .board ≡ withConfigured (freshBoard (now (names .entry)) (now (ends .entry)) (now (settings .entry)) (now (groups .entry))) (take configuredRoom (givenGroups (now (groups .entry)))) ⌝ }
 {
     let end = mem.len();
     fresh::create(&mut mem[HEAD..end], names, ends, settings, groups);

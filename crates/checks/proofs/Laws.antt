@@ -1,20 +1,26 @@
 -- Checks one after another, and what an accepted call has passed.
 use mathlib.Core.Path.{_≡_, refl, sym, _∙_}
-use mathlib.Core.Bool.{Bool, true, false, cond, _&&_}
+use mathlib.Core.Bool.{Bool, true, false, not, cond, _&&_, true≢false}
 use mathlib.Core.List.{List, [], _∷_}
-use Prim.Native.Nat.{ℕ, zero, suc, _%_, _<_, _≤_}
+use Prim.Native.Nat.{ℕ, zero, suc, _*_, _/_, _%_, _<_, _≤_}
 use native.Mathlib.Omega.{arith}
 use native.Mathlib.Nat.{mod-eq-of-lt}
-use lib.Dec.{eqb, ltb}
+use lib.Dec.{eqb, ltb, leb}
 use lib.Ieee.{Float}
 use lib.ListN.{length}
-use borrow.Author.Tests.{eq-eqb, ne-eqb, leb-false, ltb-false}
+use borrow.Author.Tests.{eq-eqb, ne-eqb, leb-true, leb-false, ltb-false}
 use Rattle.names.specs.Directory.{directoryCheck, maxNames, maxNameLength}
 use Rattle.names.proofs.DirectoryLaws.{checked}
 use Rattle.values.specs.declared.value.Value.{Value}
 use Rattle.replies.specs.Worker.{Worker}
 use Rattle.replies.specs.Losing.{isEmpty}
-use Rattle.checks.specs.Calls.{clockCheck, noTag, first, tierCheck, writeCheck}
+use Rattle.heads.specs.Link.{isState}
+use Rattle.heads.specs.declared.link.State.the-variants.{Connected}
+use Rattle.heads.specs.Options.{optionsCheck}
+use Rattle.settings.specs.Settings.{maxGroups, settingsOk}
+use Rattle.settings.specs.Configured.{givenGroups, configuredOk}
+use Rattle.settings.proofs.GroupLaws.{length-given}
+use Rattle.checks.specs.Calls.{clockCheck, noTag, first, maxWrites, tierCheck, writeCheck}
 use Rattle.checks.specs.Creation.{Setup, creationCheck}
 
 -- the first check refuses
@@ -66,6 +72,38 @@ tag-only false n e = refl
 pub write-passed : (W : Worker) (tag : ℕ) (v : Value) → writeCheck W tag v ≡ 0 → tag < W .head .count
 unfolding writeCheck
 write-passed W tag v e = leb-false (W .head .count) tag (tag-only (noTag W tag) _ e)
+
+-- so there is room for it
+pub write-room : (W : Worker) (tag : ℕ) (v : Value) → writeCheck W tag v ≡ 0 → length (W .board .queue) < maxWrites
+unfolding writeCheck
+write-room W tag v e = leb-false maxWrites (length (W .board .queue)) (go (noTag W tag) (not (isState (W .head .link) Connected)) (leb maxWrites (length (W .board .queue))) _ e)
+  where
+    go : (a b c : Bool) (n : ℕ) → cond a 23 (cond b 31 (cond c 32 n)) ≡ 0 → c ≡ false
+    go true b c n e = absurd (omega arith)
+    go false true c n e = absurd (omega arith)
+    go false false true n e = absurd (omega arith)
+    go false false false n e = refl
+
+-- the configured groups that creation accepts are good, and few
+pub groups-good : (s : Setup) → creationCheck s ≡ 0 → configuredOk (s .groups) ≡ true
+unfolding creationCheck
+groups-good s e = go (settingsOk (length (s .ends)) (s .settings)) (configuredOk (s .groups)) refl (first-zero (optionsCheck (s .options)) _ (first-zero (directoryCheck maxNames maxNameLength (s .names) (s .ends)) _ e .1) .1)
+  where
+    go : (b c : Bool) → configuredOk (s .groups) ≡ c → _≡_ {A = ℕ} (cond (b && c) 0 14) 0 → configuredOk (s .groups) ≡ true
+    go true true p e = p
+    go true false p e = absurd (omega arith)
+    go false c p e = absurd (omega arith)
+
+pub groups-few : (s : Setup) → creationCheck s ≡ 0 → length (givenGroups (s .groups)) ≤ maxGroups
+unfolding configuredOk
+groups-few s e =
+    let n = length (s .groups) / 16 in
+    omega (arith, length-given (s .groups), leb-true n maxGroups (middle (eqb (length (s .groups)) (16 * n)) (leb n maxGroups) _ (groups-good s e)))
+  where
+    middle : (a b c : Bool) → (a && (b && c)) ≡ true → b ≡ true
+    middle true true c e = refl
+    middle true false c e = e
+    middle false b c e = absurd (true≢false (sym e))
 
 -- a directory that creation accepts has few names
 pub few-names : (s : Setup) → creationCheck s ≡ 0 → length (s .ends) % 65536 ≡ length (s .ends)

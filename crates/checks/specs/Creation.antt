@@ -4,8 +4,8 @@ use mathlib.Core.List.{List}
 use Prim.Native.Nat.{ℕ}
 use lib.ListN.{length}
 use Rattle.names.specs.Directory.{directoryCheck, maxNames, maxNameLength}
-use Rattle.rounds.specs.Options.{optionsCheck}
-use Rattle.rounds.specs.declared.tick.Options.{Options}
+use Rattle.heads.specs.Options.{optionsCheck}
+use Rattle.heads.specs.declared.options.Options.{Options}
 use Rattle.settings.specs.Settings.{settingsOk}
 use Rattle.settings.specs.Configured.{configuredOk}
 use Rattle.checks.specs.Calls.{first}

@@ -1,7 +1,7 @@
 // Creation.
 ghost use mathlib.Core.Path.{_≡_};
 ghost use Rattle.checks.specs.Creation.{creationCheck};
-use rounds::tick::Options;
+use heads::options::Options;
 
 pub fn creation_check<'a>(
     names: &'a [u8],
@@ -16,7 +16,7 @@ pub fn creation_check<'a>(
     if n != 0 {
         return n as u32;
     }
-    let m = rounds::options::check_options(o);
+    let m = heads::options::check_options(o);
     if m != 0 {
         return m as u32;
     }

@@ -90,7 +90,8 @@ worked T R = record { left = T .left; reply = T .reply; bytes = T .bytes; round 
 unfoldable pub polled : Worker → At → Round → Told
 polled W at R =
     let next = withWorked W at R in
-    worked (cond (isEmpty (R .list)) (reading next at) (tell (phased next Read) (reply.read (length (R .list))) (tagBytes (R .list)))) R
+    let asked = next .board .asked in
+    worked (cond (isEmpty asked) (reading next at) (tell (phased next Read) (reply.read (length asked)) (tagBytes asked))) R
 
 -- Rule 9: the next round, unless a stop was asked for; then the writes that wait still go out
 unfoldable pub poll : Worker → At → Told

@@ -5,7 +5,6 @@ use Prim.Native.Nat.{ℕ, suc, _-_, _/_, _%_}
 use lib.Dec.{eqb}
 use lib.ListN.{length, getD, set, take}
 use Rattle.lists.specs.Keep.{keep}
-use Rattle.tags.specs.Lists.{fitted}
 use Rattle.memory.specs.Cells.{cellsIn}
 use Rattle.table.specs.Tag.{freshTag}
 use Rattle.table.specs.Table.{withWants, withDescription, byRank}
@@ -54,4 +53,4 @@ learntNone asked tags = knownFrom (λ (i : ℕ). Nothing) 0 asked tags
 
 -- Rule 8: the descriptions that are wanted are asked for, and the wants are used up
 abbrev pub describing : Board → Board
-describing B = withAsked (withRecords B (map unwanted (B .table .tags))) (fitted (B .askedRoom) (askedTags (B .table .tags)))
+describing B = withAsked (withRecords B (map unwanted (B .table .tags))) (askedTags (B .table .tags))

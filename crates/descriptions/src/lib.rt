@@ -2,7 +2,6 @@
 ghost use mathlib.Core.Path.{_≡_};
 ghost use mathlib.Core.List.{map};
 ghost use lib.ListN.{getD};
-ghost use Rattle.tags.specs.Lists.{fitted};
 ghost use Rattle.table.specs.Tag.{freshTag};
 ghost use Rattle.table.specs.Table.{tableIn};
 ghost use Rattle.board.specs.Layout.{IsBoard};
@@ -52,7 +51,7 @@ fn is_asked(t: &[u8], k: usize) -> bool
 // The descriptions that are wanted are asked for, by tag number.
 fn ask_wanted(b: &mut [u8])
     requires { ⌜ IsBoard (now b) ⌝ }
-    ensures { λ _. ⌜ Holds (now (b .exit)) (withAsked (boardIn (now (b .entry))) (fitted (boardIn (now (b .entry)) .askedRoom) (askedTags (boardIn (now (b .entry)) .table .tags)))) ⌝ }
+    ensures { λ _. ⌜ Holds (now (b .exit)) (withAsked (boardIn (now (b .entry))) (askedTags (boardIn (now (b .entry)) .table .tags))) ⌝ }
 {
     clear_asked(b);
     let n = tags_in(b);

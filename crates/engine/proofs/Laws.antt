@@ -12,8 +12,8 @@ use lib.Seq.{getD-set-same}
 use Rattle.ieee.specs.Round.{float}
 use Rattle.memory.specs.Cells.{rowsIn, noRow}
 use Rattle.memory.proofs.RowLaws.{length-rows, rows-kept, row-long, spread, spread-is}
-use Rattle.rounds.specs.declared.tick.Options.{Options}
-use Rattle.rounds.specs.declared.tick.Cycle.{Cycle}
+use Rattle.heads.specs.declared.options.Options.{Options}
+use Rattle.heads.specs.declared.cycle.Cycle.{Cycle}
 use Rattle.heads.specs.Link.{linkFrom}
 use Rattle.heads.specs.Progress.{progressFrom}
 use Rattle.heads.specs.Stats.{statsFrom}

@@ -7,8 +7,8 @@ use lib.Ieee.{Float, binary64, ofBits, add}
 use lib.ListN.{length, getD}
 use Rattle.ieee.specs.Round.{float}
 use Rattle.memory.specs.Cells.{rowsIn, noRow}
-use Rattle.rounds.specs.declared.tick.Options.{Options}
-use Rattle.rounds.specs.declared.tick.Cycle.{Cycle}
+use Rattle.heads.specs.declared.options.Options.{Options}
+use Rattle.heads.specs.declared.cycle.Cycle.{Cycle}
 use Rattle.heads.specs.Link.{freshLink, linkFrom}
 use Rattle.heads.specs.Progress.{freshProgress, progressFrom}
 use Rattle.heads.specs.Stats.{freshStats, statsFrom}

@@ -3,11 +3,11 @@ pub mod codec;
 
 ghost use mathlib.Core.Path.{_≡_};
 ghost use Rattle.engine.specs.Engine.{freshEngine, engineIn, stored, backoffAt, retryAt, withLink, withProgress, withStats, withCycle, withClock};
+use heads::cycle::Cycle;
 use heads::link::Link;
+use heads::options::Options;
 use heads::progress::Progress;
 use heads::stats::Stats;
-use rounds::tick::Cycle;
-use rounds::tick::Options;
 
 // `clock` is the last reading accepted, `count` how many names the directory has.
 pub struct Engine {

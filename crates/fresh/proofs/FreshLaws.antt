@@ -27,11 +27,11 @@ use Rattle.groups.specs.declared.group.Group.{Group}
 use Rattle.settings.specs.Configured.{givenGroups, configuredIn, groupPlaces}
 use Rattle.settings.specs.declared.configured.Configured.{Configured}
 use Rattle.versions.specs.Versions.{tableTaken}
-use Rattle.queue.specs.Queue.{queueIn, queueRoom, placesIn}
+use Rattle.queue.specs.Queue.{queueIn, placesIn}
 use Rattle.queue.specs.declared.Write.{Write}
-use Rattle.board.specs.Layout.{sizes, back, recorded, configured, queue, groups, table, order, graces, asked, keys, words, boardSize, tagsIn, IsBoard, partsIn}
+use Rattle.board.specs.Layout.{sizes, back, recorded, configured, queue, groups, table, order, graces, asked, keys, words, tagsFor, tagsIn, IsBoard, partsIn}
 use Rattle.board.specs.Board.{Board, Holds, boardFrom, boardIn, withRecords, withKeys, withWords, withConfigured}
-use Rattle.board.proofs.BoardLaws.{still-board, sizes-are}
+use Rattle.board.proofs.BoardLaws.{still-board}
 use Rattle.fresh.specs.Fresh.{configuredRoom, emptyBoard, freshBoard}
 
 -- ---- a list of the same element over and over
@@ -144,33 +144,28 @@ queue-zero : (n : ℕ) → queueIn (zeros n) ≡ []
 unfolding queueIn
 queue-zero n = ap (λ (k : ℕ). take k (placesIn (zeros n))) (ap (λ (l : List ℕ). getD l 0 0) (cells-zero n) ∙ zero-at (n / 8) 0)
 
-queue-room-zero : (n : ℕ) → queueRoom (zeros n) ≡ (n / 8 - 1) / 3
-queue-room-zero n = ap (λ (k : ℕ). (k / 8 - 1) / 3) (length-zeros n)
-
 configured-zero : (n : ℕ) → configuredIn (zeros n) ≡ []
 unfolding configuredIn
 configured-zero n = ap (λ (k : ℕ). take k (groupPlaces (zeros n))) (ap (λ (l : List ℕ). getD l 0 0) (cells-zero n) ∙ zero-at (n / 8) 0)
 
 -- ---- a board of zeros
 
-board-is : (B : Board) (tags : List Tag) (order graces : List ℕ) (orderRoom graceRoom : ℕ) (words : List ℕ) (groups : List Group) (recorded : List ℕ) (recordedRoom : ℕ)
-    (keys : List ℕ) (configured : List Configured) (queue : List Write) (qRoom : ℕ) (asked : List ℕ) (askedRoom : ℕ) (back : List ℕ)
-    → tags ≡ B .table .tags → order ≡ B .table .order → graces ≡ B .table .graces → orderRoom ≡ B .table .orderRoom → graceRoom ≡ B .table .graceRoom → words ≡ B .table .words
+board-is : (B : Board) (tags : List Tag) (order graces : List ℕ) (room : ℕ) (words : List ℕ) (groups : List Group) (recorded : List ℕ) (recordedRoom : ℕ)
+    (keys : List ℕ) (configured : List Configured) (queue : List Write) (asked back : List ℕ)
+    → tags ≡ B .table .tags → order ≡ B .table .order → graces ≡ B .table .graces → room ≡ B .table .room → words ≡ B .table .words
     → groups ≡ B .groups .groups → recorded ≡ B .groups .recorded → recordedRoom ≡ B .groups .recordedRoom → keys ≡ B .keys → configured ≡ B .configured
-    → queue ≡ B .queue → qRoom ≡ B .queueRoom → asked ≡ B .asked → askedRoom ≡ B .askedRoom → back ≡ B .back
+    → queue ≡ B .queue → asked ≡ B .asked → back ≡ B .back
     → _≡_ {A = Board} (record {
-      table = record { tags = tags; order = order; graces = graces; orderRoom = orderRoom; graceRoom = graceRoom; words = words };
+      table = record { tags = tags; order = order; graces = graces; room = room; words = words };
       groups = record { groups = groups; recorded = recorded; recordedRoom = recordedRoom };
       keys = keys;
       configured = configured;
       queue = queue;
-      queueRoom = qRoom;
       asked = asked;
-      askedRoom = askedRoom;
       back = back;
     }) B
-board-is B tags order graces orderRoom graceRoom words groups recorded recordedRoom keys configured queue qRoom asked askedRoom back e0 e1 e2 e3 e4 e5 e6 e7 e8 e9 e10 e11 e12 e13 e14 e15 =
-    rw (e0, e1, e2, e3, e4, e5, e6, e7, e8, e9, e10, e11, e12, e13, e14, e15) refl
+board-is B tags order graces room words groups recorded recordedRoom keys configured queue asked back e0 e1 e2 e3 e4 e5 e6 e7 e8 e9 e10 e11 e12 =
+    rw (e0, e1, e2, e3, e4, e5, e6, e7, e8, e9, e10, e11, e12) refl
 
 -- each part of zeros is zeros
 module _ (bs : List ℕ) (h : IsBoard bs) (z : bs ≡ zeros (length bs)) where
@@ -178,7 +173,7 @@ module _ (bs : List ℕ) (h : IsBoard bs) (z : bs ≡ zeros (length bs)) where
   unfolding partsIn
   zero-part i =
       let ns = sizes (tagsIn bs) in
-      ap (part (startOf ns i) (sizeOf ns i)) z ∙ part-zero (startOf ns i) (sizeOf ns i) (length bs) (omega (arith, h .0, sizes-are (tagsIn bs), parts-within ns i))
+      ap (part (startOf ns i) (sizeOf ns i)) z ∙ part-zero (startOf ns i) (sizeOf ns i) (length bs) (omega (arith, h .0, parts-within ns i))
 
   none : (i : ℕ) → listIn (partsIn bs i) ≡ []
   none i = ap listIn (zero-part i) ∙ list-zero (sizeOf (sizes (tagsIn bs)) i)
@@ -197,18 +192,17 @@ module _ (bs : List ℕ) (h : IsBoard bs) (z : bs ≡ zeros (length bs)) where
       let list-room : min ((2 * c + 2) / 2 - 1) 65535 ≡ c = omega arith in
       let rows : 256 * c / 256 ≡ c = omega arith in
       let two : 2 * c / 2 ≡ c = omega arith in
-      board-is (emptyBoard c) _ _ _ _ _ _ _ _ _ _ _ _ _ _ _ _
-      (ap tableIn (zero-part table) ∙ table-zero (256 * c) ∙ ap (λ (n : ℕ). replicate n freshTag) rows) (none order) (none graces) (roomy order ∙ list-room) (roomy graces ∙ list-room) (numbers words ∙ ap zeros two)
+      board-is (emptyBoard c) _ _ _ _ _ _ _ _ _ _ _ _ _
+      (ap tableIn (zero-part table) ∙ table-zero (256 * c) ∙ ap (λ (n : ℕ). replicate n freshTag) rows) (none order) (none graces) (roomy order ∙ list-room) (numbers words ∙ ap zeros two)
       (ap groupsIn (zero-part groups) ∙ groups-zero 1024) (none recorded) (roomy recorded) (numbers keys ∙ ap zeros two) (ap configuredIn (zero-part configured) ∙ configured-zero 512)
-      (ap queueIn (zero-part queue) ∙ queue-zero 1024) (ap queueRoom (zero-part queue) ∙ queue-room-zero 1024)
-      (none asked) (roomy asked ∙ list-room) (zero-part back)
+      (ap queueIn (zero-part queue) ∙ queue-zero 1024) (none asked) (zero-part back)
 
 -- memory that was cleared is an empty board
 pub cleared : (old new : List ℕ) → IsBoard old → new ≡ zeros (length old) → Holds new (emptyBoard (tagsIn old))
 cleared old new h e =
     let same : length new ≡ length old = ap (λ (l : List ℕ). length l) e ∙ length-zeros (length old) in
     let still = still-board new old same h in
-    record { still = still; board = empty-board new still (e ∙ ap zeros (sym same)) ∙ ap emptyBoard (ap (λ (n : ℕ). (n - 2886) / 266) same) }
+    record { still = still; board = empty-board new still (e ∙ ap zeros (sym same)) ∙ ap emptyBoard (ap tagsFor same) }
 
 -- ---- what the names say, over zeros
 
@@ -225,6 +219,6 @@ pub made : (names ends settings given : List ℕ) (B0 B1 B2 B3 B4 : Board) → B
     → B2 ≡ withWords B1 (over (B1 .table .words) (wordsOf (namesOf names ends)))
     → B3 ≡ withConfigured B2 (take configuredRoom (givenGroups given))
     → B4 ≡ withRecords B3 (tableTaken false settings (B3 .table .words) (B3 .table .tags))
-    → B4 ≡ freshBoard names ends settings given
+    → B4 ≡ withConfigured (freshBoard names ends settings given) (take configuredRoom (givenGroups given))
 unfolding freshBoard
 made names ends settings given B0 B1 B2 B3 B4 e0 e1 e2 e3 e4 = rw (e4, e3, e2, e1, e0, keys-over names ends, words-over names ends) refl

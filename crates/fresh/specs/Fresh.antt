@@ -2,7 +2,7 @@
 use mathlib.Core.Bool.{false}
 use mathlib.Core.List.{List, []}
 use Prim.Native.Nat.{ℕ}
-use lib.ListN.{length, replicate, take}
+use lib.ListN.{length, replicate}
 use Rattle.names.specs.Directory.{namesOf}
 use Rattle.ranks.specs.Ranks.{keysOf, wordsOf}
 use Rattle.table.specs.Tag.{freshTag}
@@ -11,7 +11,7 @@ use Rattle.settings.specs.Configured.{givenGroups}
 use Rattle.versions.specs.Versions.{tableTaken}
 use Rattle.board.specs.Board.{Board}
 
--- How many groups, recorded groups, configured groups and writes the memory has room for. The checks let fewer in, so that none of this is ever met.
+-- How many groups, recorded groups and configured groups the memory has room for. The checks let fewer in, so that none of this is ever met.
 abbrev pub groupRoom : ℕ
 groupRoom = 16
 
@@ -21,20 +21,15 @@ recordedRoom = 31
 abbrev pub configuredRoom : ℕ
 configuredRoom = 31
 
-abbrev pub writeRoom : ℕ
-writeRoom = 42
-
 -- A board of zeros for c tags.
 abbrev pub emptyBoard : ℕ → Board
 emptyBoard c = record {
-  table = record { tags = replicate c freshTag; order = []; graces = []; orderRoom = c; graceRoom = c; words = replicate c 0 };
+  table = record { tags = replicate c freshTag; order = []; graces = []; room = c; words = replicate c 0 };
   groups = record { groups = replicate groupRoom freshGroup; recorded = []; recordedRoom = recordedRoom };
   keys = replicate c 0;
   configured = [];
   queue = [];
-  queueRoom = writeRoom;
   asked = [];
-  askedRoom = c;
   back = replicate 256 0;
 }
 
@@ -45,16 +40,13 @@ freshBoard names ends settings groups = record {
     tags = tableTaken false settings (wordsOf (namesOf names ends)) (replicate (length ends) freshTag);
     order = [];
     graces = [];
-    orderRoom = length ends;
-    graceRoom = length ends;
+    room = length ends;
     words = wordsOf (namesOf names ends);
   };
   groups = record { groups = replicate groupRoom freshGroup; recorded = []; recordedRoom = recordedRoom };
   keys = keysOf (namesOf names ends);
-  configured = take configuredRoom (givenGroups groups);
+  configured = givenGroups groups;
   queue = [];
-  queueRoom = writeRoom;
   asked = [];
-  askedRoom = length ends;
   back = replicate 256 0;
 }

@@ -61,10 +61,11 @@ fn keep_groups(b: &mut [u8], groups: &[u8])
     keep_configured(&mut b[start..end], groups);
 }
 
+// As many configured groups are kept as there is room for; check 14 lets fewer in.
 pub fn create<'a>(b: &mut [u8], names: &'a [u8], ends: &'a [u32], settings: &[u8], groups: &[u8])
     requires { ⌜ IsBoard (now b) ⌝ }
     requires { ⌜ tagsIn (now b) ≡ length (now ends) ⌝ }
-    ensures { λ _. ⌜ Holds (now (b .exit)) (freshBoard (now (names .entry)) (now (ends .entry)) (now (settings .entry)) (now (groups .entry))) ⌝ }
+    ensures { λ _. ⌜ Holds (now (b .exit)) (withConfigured (freshBoard (now (names .entry)) (now (ends .entry)) (now (settings .entry)) (now (groups .entry))) (take configuredRoom (givenGroups (now (groups .entry))))) ⌝ }
 {
     clear(b);
     keep_keys(b, names, ends);

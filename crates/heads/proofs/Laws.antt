@@ -6,7 +6,7 @@ use lib.Ieee.{Float, binary64, fits, ofBits, toBits}
 use lib.Ieee.Bits.{ofBits-toBits}
 use mir.Val.{toZ}
 use mir.Syntax.{w64}
-use Rattle.versions.specs.Versions.{versionFrom}
+use Rattle.heads.specs.Version.{versionFrom}
 use Rattle.heads.specs.Link.{stateFrom, stateNumber, linkFrom}
 use Rattle.heads.specs.Progress.{phaseFrom, phaseNumber, afterFrom, afterNumber, progressFrom}
 use Rattle.heads.specs.Stats.{statsFrom}

@@ -2,9 +2,9 @@
 use mathlib.Core.Bool.{Bool, true, false, cond}
 use Prim.Native.Nat.{ℕ}
 use lib.Dec.{eqb, ltb}
-use Rattle.versions.specs.Versions.{versionFrom}
-use Rattle.versions.specs.declared.version.Version.{Version}
-use Rattle.versions.specs.declared.version.Version.the-variants.{Null}
+use Rattle.heads.specs.Version.{versionFrom}
+use Rattle.heads.specs.declared.version.Version.{Version}
+use Rattle.heads.specs.declared.version.Version.the-variants.{Null}
 use Rattle.heads.specs.declared.link.State.{State}
 use Rattle.heads.specs.declared.link.State.the-variants.{Connecting, Connected, Disconnected, Stopped}
 use Rattle.heads.specs.declared.link.Link.{Link}

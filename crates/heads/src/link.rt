@@ -1,9 +1,9 @@
 // The connection: what the host knows of it, and what is to happen to it.
 ghost use mathlib.Core.Path.{_≡_};
 ghost use Rattle.heads.specs.Link.{freshLink, stateFrom, stateNumber, withState, withAttempt, withVersion, stopped, isState, linkFrom};
-use versions::version::Version;
-use versions::version::version_from;
-use versions::version::version_words;
+use super::version::Version;
+use super::version::version_from;
+use super::version::version_words;
 use words::scalar::word_of_flag;
 
 // What the host is told. Stopped is not told; it comes with the end.

@@ -12,8 +12,8 @@ use Rattle.board.specs.Layout.{boardSize, isBoardSize, tagsIn, partsIn}
 use Rattle.board.specs.Board.{Board, Holds, boardIn, tagAt}
 use Rattle.rounds.specs.Round.{Round, roundOf}
 use Rattle.rounds.specs.Memory.{Worked}
-use Rattle.rounds.specs.declared.tick.Options.{Options}
-use Rattle.rounds.specs.declared.tick.Cycle.{Cycle}
+use Rattle.heads.specs.declared.options.Options.{Options}
+use Rattle.heads.specs.declared.cycle.Cycle.{Cycle}
 use Rattle.rounds.specs.declared.round.CycleTags.{CycleTags}
 use Rattle.leaves.specs.declared.polls.LeafCycle.{LeafCycle}
 use Rattle.leaves.specs.declared.polls.LeafRound.{LeafRound}

@@ -1,8 +1,10 @@
 // Rules 5 and 6 on a board in lent memory.
 ghost use mathlib.Core.Path.{_≡_};
 ghost use Rattle.board.specs.Layout.{order, graces, asked};
-ghost use Rattle.board.specs.Board.{boardIn, withTable};
-ghost use Rattle.fresh.specs.Fresh.{freshBoard};
+ghost use lib.ListN.{take};
+ghost use Rattle.settings.specs.Configured.{givenGroups};
+ghost use Rattle.board.specs.Board.{boardIn, withTable, withConfigured};
+ghost use Rattle.fresh.specs.Fresh.{configuredRoom, freshBoard};
 ghost use Rattle.tiers.specs.Tiers.{setTier};
 ghost use Rattle.leaves.specs.Polls.{sizeFor, sizeCheck, freshCheck, Called, tierLook, partLeft, tagsOf, Rounded};
 use board::parts::asked_of;
@@ -13,11 +15,11 @@ use board::starts::size_for;
 use board::starts::tags_in;
 use board::tag::tier_of;
 use board::tag_lists::asked_count;
+use heads::cycle::Cycle;
+use heads::options::Options;
 use lent::put_bytes;
 use names::directory::MAX_NAMES;
 use rounds::round::CycleTags;
-use rounds::tick::Cycle;
-use rounds::tick::Options;
 
 #[repr(C)]
 pub struct LeafCycle {
@@ -85,7 +87,7 @@ pub extern "C" fn leaf_create<'a>(
     settings: &[u8],
     groups: &[u8],
 ) -> u32
-    ensures { λ r. ⌜ Called (now (mem .entry)) (now (mem .exit)) r (freshCheck (now (mem .entry)) (now (ends .entry))) (freshBoard (now (names .entry)) (now (ends .entry)) (now (settings .entry)) (now (groups .entry))) ⌝ }
+    ensures { λ r. ⌜ Called (now (mem .entry)) (now (mem .exit)) r (freshCheck (now (mem .entry)) (now (ends .entry))) (withConfigured (freshBoard (now (names .entry)) (now (ends .entry)) (now (settings .entry)) (now (groups .entry))) (take configuredRoom (givenGroups (now (groups .entry))))) ⌝ }
 {
     let code = fresh_check(mem, ends);
     if code != 0 {

@@ -61,7 +61,7 @@ at-once T k tier grace clock z off = rw (z, off) (all (eqb tier 1) (eqb tier 2) 
     all false false false X = refl
 
 module _ (T : Table) (k tier : ℕ) where
-  order-put : tagAt T k .tier ≡ 0 → (tier ≡ 0 → ⊥) → length (T .order) < T .orderRoom → setTable T k tier .order ≡ T .order ++ (k ∷ [])
+  order-put : tagAt T k .tier ≡ 0 → (tier ≡ 0 → ⊥) → length (T .order) < T .room → setTable T k tier .order ≡ T .order ++ (k ∷ [])
   unfolding putTable orderSet
   order-put z n free = rw (z, ne-eqb tier 0 n, lt-ltb _ _ free)
 
@@ -77,7 +77,7 @@ module _ (T : Table) (k tier : ℕ) where
   unfolding putTable
   tag-other j n = getD-set-other (T .tags) k j (withGrace (tagSet (tagAt T k) (isBit T k) tier) noGrace) freshTag n
 
-  room-same : setTable T k tier .orderRoom ≡ T .orderRoom
+  room-same : setTable T k tier .room ≡ T .room
   unfolding putTable
   room-same = refl
 
@@ -88,7 +88,7 @@ record Ready (T : Table) (ks : List ℕ) : Type 0 where
   within : Below (length (T .tags)) ks
   once : (j : ℕ) → count j ks ≤ 1
   out : (j : ℕ) → 0 < count j ks → (tagAt T j .tier ≡ 0) × (tagAt T j .grace .on ≡ false)
-  free : length (T .order) + length ks ≤ T .orderRoom
+  free : length (T .order) + length ks ≤ T .room
 
 -- they have entered, with the tiers f says
 record Entered (f : ℕ → ℕ) (T : Table) (ks : List ℕ) (end : Table) : Type 0 where
@@ -165,7 +165,7 @@ in-none zero e = refl
 in-none (suc n) e = absurd (omega arith)
 
 -- Rule 11: a list written from a listed table T of tags that fit a byte, loaded into an empty table F of as many tags.
-module _ (T F : Table) (l : Listed T) (empty : Empty F) (same : length (F .tags) ≡ length (T .tags)) (enough : length (F .tags) ≤ F .orderRoom) (grace clock : Float) where
+module _ (T F : Table) (l : Listed T) (empty : Empty F) (same : length (F .tags) ≡ length (T .tags)) (enough : length (F .tags) ≤ F .room) (grace clock : Float) where
   order-once : (j : ℕ) → count j (T .order) ≤ 1
   order-once j = omega (arith, l .once j, few-in (tagAt T j .tier))
 

@@ -42,9 +42,9 @@ use denote.Struct.Struct.{struct-pure}
 use denote.Triple.Entry.{onEntry, Args, Vals}
 use denote.Triple.End.{Kepts, lastsOf}
 use denote.Triple.Spec.{Spec, tripleOf, Meets, exits}
-use Rattle.rounds.specs.declared.tick.Options.{Options}
-use Rattle.rounds.proofs.tick.Options as O
-use Rattle.rounds.proofs.tick.Options.Laws as O′
+use Rattle.heads.specs.declared.options.Options.{Options}
+use Rattle.heads.proofs.options.Options as O
+use Rattle.heads.proofs.options.Options.Laws as O′
 use Rattle.checks.specs.Creation.{Setup}
 use Rattle.capi.specs.Creation.{Created}
 use Rattle.capi.proofs.creation.wz_create.Met as create

@@ -24,7 +24,7 @@ use Rattle.tags.specs.Lists as tags-Lists
 use Rattle.table.specs.Row as table-Row
 use Rattle.table.specs.Table as table-Table
 use Rattle.groups.specs.Groups as groups-Groups
-use Rattle.rounds.specs.Options as rounds-Options
+use Rattle.heads.specs.Options as heads-Options
 use Rattle.settings.specs.Records as settings-Records
 use Rattle.settings.specs.Settings as settings-Settings
 use Rattle.settings.specs.Configured as settings-Configured
@@ -64,7 +64,7 @@ lent = replicate (memorySize 3) 0
 
 -- creation accepts this setup; the memory holds a fresh engine, and is as long as the one that was lent
 computed : (creationAnswer setup (memorySize 3) ≡ 0) × (workerIn fresh ≡ freshWorker setup) × (length fresh ≡ memorySize 3)
-unfolding lists-Keep.keep lists-Keep.upTo names-Order.compared names-Order.lowerOf names-Bits.lastDot names-Bits.allDigits names-Bits.splitBit names-Directory.cut names-Directory.goodEnds names-Directory.goodBytes names-Directory.goodNames names-Directory.risingFrom names-Directory.rising names-Directory.directoryCheck names-Keys.below names-Keys.find words-Entry.entryFrom words-Entry.entryWordsOf memory-Blocks.blocks memory-Cells.cellsIn memory-Cells.rowsIn memory-Halves.halvesIn tags-Lists.listIn table-Row.tagFrom table-Table.tableIn groups-Groups.groupFrom groups-Groups.groupsIn groups-Groups.groupRead rounds-Options.optionsCheck settings-Records.recordsOf settings-Records.every settings-Settings.settingFrom settings-Settings.settingIn settings-Settings.settingOk settings-Settings.settingsOk settings-Configured.configuredFrom settings-Configured.givenGroups settings-Configured.groupOk settings-Configured.configuredOk settings-Configured.groupPlaces settings-Configured.configuredIn versions-Versions.tagTaken versions-Versions.eachAt versions-Versions.versionTable heads-Progress.phaseFrom heads-Stats.tailStats engine-Engine.engineFrom engine-Engine.engineIn engine-Engine.stored queue-Queue.writeFrom queue-Queue.placesIn queue-Queue.queueIn board-Layout.partsIn board-Board.boardFrom board-Board.boardIn fresh-Fresh.freshBoard capi-Memory.workerIn creationAnswer checks-Creation.creationCheck ieee-lib.eq ieee-lib.le ieee-lib.lt ieee-lib.add ieee-lib.sub ieee-lib.mul ieee-lib.div ieee-lib.neg ieee-lib.ofInt ieee-lib.round ieee-lib.toUnsigned ieee-lib.ofBits ieee-lib.toBits
+unfolding lists-Keep.keep lists-Keep.upTo names-Order.compared names-Order.lowerOf names-Bits.lastDot names-Bits.allDigits names-Bits.splitBit names-Directory.cut names-Directory.goodEnds names-Directory.goodBytes names-Directory.goodNames names-Directory.risingFrom names-Directory.rising names-Directory.directoryCheck names-Keys.below names-Keys.find words-Entry.entryFrom words-Entry.entryWordsOf memory-Blocks.blocks memory-Cells.cellsIn memory-Cells.rowsIn memory-Halves.halvesIn tags-Lists.listIn table-Row.tagFrom table-Table.tableIn groups-Groups.groupFrom groups-Groups.groupsIn groups-Groups.groupRead heads-Options.optionsCheck settings-Records.recordsOf settings-Records.every settings-Settings.settingFrom settings-Settings.settingIn settings-Settings.settingOk settings-Settings.settingsOk settings-Configured.configuredFrom settings-Configured.givenGroups settings-Configured.groupOk settings-Configured.configuredOk settings-Configured.groupPlaces settings-Configured.configuredIn versions-Versions.tagTaken versions-Versions.eachAt versions-Versions.versionTable heads-Progress.phaseFrom heads-Stats.tailStats engine-Engine.engineFrom engine-Engine.engineIn engine-Engine.stored queue-Queue.writeFrom queue-Queue.placesIn queue-Queue.queueIn board-Layout.partsIn board-Board.boardFrom board-Board.boardIn fresh-Fresh.freshBoard capi-Memory.workerIn creationAnswer checks-Creation.creationCheck ieee-lib.eq ieee-lib.le ieee-lib.lt ieee-lib.add ieee-lib.sub ieee-lib.mul ieee-lib.div ieee-lib.neg ieee-lib.ofInt ieee-lib.round ieee-lib.toUnsigned ieee-lib.ofBits ieee-lib.toBits
 computed = (refl, refl, refl)
 
 pub fresh-long : length fresh ≡ memorySize 3

@@ -17,7 +17,7 @@ use Rattle.lent.specs.Lent.{records}
 use Rattle.shown.specs.Looks.{listed, leftIn, panelLeft, rowCells}
 use Rattle.capi.specs.Memory.{workerIn}
 use Rattle.capi.specs.Looks.{stateLook, statsLook, countsLook, groupCells, groupCount, groupCheck, tableCount, tableCheck, panelBytes, panelCount, panelCode, tagLook}
-use Rattle.turns.specs.Calls.{Call, tier, load, steps, write, stop, lookState, lookStats, lookCounts, lookGroups, lookTable, lookPanel, lookTag, Answer, numberIs, told, stateIs, statsAre, countsAre, listIs, tagIs}
+use Rattle.turns.specs.Calls.{Call, tier, load, steps, write, stop, look, lookState, lookStats, lookCounts, lookGroups, lookTable, lookPanel, lookTag, Answer, numberIs, told, stateIs, statsAre, countsAre, listIs, tagIs}
 use Rattle.turns.specs.Contracts.{Learnt}
 use Rattle.possible.specs.Typed.{Lendable, Typed, EveryList}
 use Rattle.possible.proofs.PlainRuns.{tier-has, write-has, stop-has}
@@ -93,22 +93,22 @@ module _ (old : List ℕ) (l : Lendable old) where
   call-has stop t =
       numbered stop old _ (λ r new p. ((r, refl, record { lifetimes = (0 ∷ [], tt); mem = ref old; mem-exit = ref new; mem-is = refl; mem-left = refl; met = p }), p .long)) l
       (stop-has old (l .0) room)
-  call-has lookState t = ∣ (stateIs (stateLook old), old, (stateLook old, refl, refl, record { lifetimes = (0 ∷ [], tt); mem = ref old; mem-is = refl; met = refl }), l) ∣₁
-  call-has lookStats t = ∣ (statsAre (statsLook old), old, (statsLook old, refl, refl, record { lifetimes = (0 ∷ [], tt); mem = ref old; mem-is = refl; met = refl }), l) ∣₁
-  call-has lookCounts t = ∣ (countsAre (countsLook old), old, (countsLook old, refl, refl, record { lifetimes = (0 ∷ [], tt); mem = ref old; mem-is = refl; met = refl }), l) ∣₁
-  call-has (lookGroups out) t =
+  call-has (look lookState) t = ∣ (stateIs (stateLook old), old, (stateLook old, refl, refl, record { lifetimes = (0 ∷ [], tt); mem = ref old; mem-is = refl; met = refl }), l) ∣₁
+  call-has (look lookStats) t = ∣ (statsAre (statsLook old), old, (statsLook old, refl, refl, record { lifetimes = (0 ∷ [], tt); mem = ref old; mem-is = refl; met = refl }), l) ∣₁
+  call-has (look lookCounts) t = ∣ (countsAre (countsLook old), old, (countsLook old, refl, refl, record { lifetimes = (0 ∷ [], tt); mem = ref old; mem-is = refl; met = refl }), l) ∣₁
+  call-has (look (lookGroups out)) t =
       let r = listed (groupCheck old out) (groupCount (workerIn old) out) in
       let out' = leftIn (groupCheck old out) out (groupCells (workerIn old)) in
       ∣ (listIs r out', old, (r, out', refl, refl, record { lifetimes = (0 ∷ [], (1 ∷ [], tt)); mem = ref old; lent = ref out; lent-exit = ref out'; mem-is = refl; lent-is = refl; lent-left = refl; met = (refl, refl) }), l) ∣₁
-  call-has (lookTable out) t =
+  call-has (look (lookTable out)) t =
       let r = listed (tableCheck old out) (tableCount (workerIn old) out) in
       let out' = leftIn (tableCheck old out) out (records (rowCells (workerIn old .board)) (workerIn old .board .table .order)) in
       ∣ (listIs r out', old, (r, out', refl, refl, record { lifetimes = (0 ∷ [], (1 ∷ [], tt)); mem = ref old; lent = ref out; lent-exit = ref out'; mem-is = refl; lent-is = refl; lent-left = refl; met = (refl, refl) }), l) ∣₁
-  call-has (lookPanel out) t =
+  call-has (look (lookPanel out)) t =
       let r = listed (panelCode old out) (panelCount (workerIn old) out) in
       let out' = panelLeft (panelCode old out) out (panelBytes (workerIn old)) in
       ∣ (listIs r out', old, (r, out', refl, refl, record { lifetimes = (0 ∷ [], (1 ∷ [], tt)); mem = ref old; lent = ref out; lent-exit = ref out'; mem-is = refl; lent-is = refl; lent-left = refl; met = (refl, refl) }), l) ∣₁
-  call-has (lookTag tag) t = ∣ (tagIs (tagLook old tag), old, (tagLook old tag, refl, refl, record { lifetimes = (0 ∷ [], tt); mem = ref old; mem-is = refl; met = refl }), l) ∣₁
+  call-has (look (lookTag tag)) t = ∣ (tagIs (tagLook old tag), old, (tagLook old tag, refl, refl, record { lifetimes = (0 ∷ [], tt); mem = ref old; mem-is = refl; met = refl }), l) ∣₁
 
 -- Every list of calls has a history.
 pub every-list : EveryList

@@ -46,7 +46,7 @@ use lib.Signed.{mag}
 use Rattle.replies.specs.Worker.{at}
 use Rattle.replies.specs.declared.reply.Reply.{Reply}
 use Rattle.replies.proofs.reply.Reply as reply
-use Rattle.worker.specs.Answers.{step}
+use Rattle.worker.specs.Steps.{step}
 use Rattle.capi.specs.Calls.{answerOf, Stepped}
 use Rattle.capi.proofs.calls.wz_step.Met as step-theorem
 

@@ -10,7 +10,7 @@ use mir.Syntax.{w8}
 use prog.Model.{AllFit}
 use Rattle.histories.specs.Events.{Each}
 use Rattle.histories.specs.Histories.{calls, Happened}
-use Rattle.turns.specs.Calls.{Call, tier, load, steps, write, stop, lookState, lookStats, lookCounts, lookGroups, lookTable, lookPanel, lookTag}
+use Rattle.turns.specs.Calls.{Call, tier, load, steps, write, stop, look}
 use Rattle.turns.specs.Contracts.{Asked, Learnt}
 use Rattle.turns.specs.Demand.{History}
 
@@ -26,13 +26,7 @@ Typed (steps clock wall kind number message list out) =
     (fits binary64 clock ≡ true) × (mag wall < 2 ^ 63) × (kind < 2 ^ 64) × (number < 2 ^ 64) × (message < 2 ^ 64) × Lendable list × Lendable out
 Typed (write tag kind word) = (tag < 2 ^ 32) × (kind < 2 ^ 64) × (word < 2 ^ 64)
 Typed stop = Unit {0}
-Typed lookState = Unit {0}
-Typed lookStats = Unit {0}
-Typed lookCounts = Unit {0}
-Typed (lookGroups out) = Unit {0}
-Typed (lookTable out) = Unit {0}
-Typed (lookPanel out) = Unit {0}
-Typed (lookTag tag) = Unit {0}
+Typed (look l) = Unit {0}
 
 -- Every list of such calls has a history, from every memory on; so the claim of demand 3 is about every list of calls.
 unfoldable pub EveryList : Type 0

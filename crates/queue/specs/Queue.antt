@@ -1,5 +1,5 @@
 -- Rule 8: the writes that wait.
-use mathlib.Core.Bool.{true, false, cond}
+use mathlib.Core.Bool.{cond}
 use mathlib.Core.List.{List, [], _∷_, _++_, map}
 use Prim.Native.Nat.{ℕ, _-_, _/_, _%_}
 use lib.Dec.{ltb}
@@ -11,7 +11,6 @@ use Rattle.memory.specs.Cells.{cellsIn}
 use Rattle.queue.specs.declared.Write.{Write}
 use Rattle.queue.specs.declared.Popped.{Popped}
 use Rattle.queue.specs.declared.Popped.the-variants.{Nothing, Is}
-use Rattle.queue.specs.declared.Next.{Next}
 
 -- the write that three cells hold: the tag, the value's kind and its bits
 unfoldable pub writeFrom : List ℕ → Write
@@ -24,6 +23,10 @@ noWrite = record { tag = 0; value = Null }
 -- how many writes memory has room for, after the count
 abbrev pub queueRoom : List ℕ → ℕ
 queueRoom bs = (length bs / 8 - 1) / 3
+
+-- how many an engine's queue has room for; check 32 lets fewer in
+abbrev pub writeRoom : ℕ
+writeRoom = 42
 
 -- what each place holds
 unfoldable pub placesIn : List ℕ → List Write
@@ -45,11 +48,6 @@ popped (w ∷ ws) = Is w
 -- the writes behind it
 abbrev pub rest : List Write → List Write
 rest ws = drop 1 ws
-
--- Rule 9: an empty write queue ends the writing
-abbrev pub nextOf : Popped → Next
-nextOf Nothing = record { asked = false; tag = 0; value = Null }
-nextOf (Is w) = record { asked = true; tag = w .tag; value = w .value }
 
 -- the tags of the writes, in queue order
 abbrev pub writeTags : List Write → List ℕ

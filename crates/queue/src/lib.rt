@@ -5,7 +5,7 @@ ghost use mathlib.Core.List.{[]};
 ghost use Prim.Native.Nat.{_-_};
 ghost use lib.ListN.{length, getD, set, take};
 ghost use Rattle.tags.specs.Lists.{listIn, room, fitted};
-ghost use Rattle.queue.specs.Queue.{noWrite, queueRoom, placesIn, queueIn, queuedWith, popped, rest, writeTags, nextOf};
+ghost use Rattle.queue.specs.Queue.{noWrite, queueRoom, placesIn, queueIn, queuedWith, popped, rest, writeTags};
 use memory::cells::cell;
 use memory::cells::put_cell;
 use values::value::Value;
@@ -22,13 +22,6 @@ pub struct Write {
 pub enum Popped {
     Nothing,
     Is(Write),
-}
-
-// What the writing does next; `asked` is false where no write waits.
-pub struct Next {
-    pub asked: bool,
-    pub tag: u16,
-    pub value: Value,
 }
 
 // How many writes the slice has room for.
@@ -129,26 +122,6 @@ pub fn pop(q: &mut [u8]) -> Popped
     move_up(q);
     put_cell(q, 0, left as u64);
     Popped::Is(w)
-}
-
-// The write to ask the driver for; an empty queue ends the writing.
-pub fn next_write(q: &mut [u8]) -> Next
-    ensures { λ r. ⌜ (r ≡ nextOf (popped (queueIn (now (q .entry))))) × (queueIn (now (q .exit)) ≡ rest (queueIn (now (q .entry)))) ⌝ }
-{
-    let first = pop(q);
-    let Popped::Is(w) = first else {
-        return Next {
-            asked: false,
-            tag: 0,
-            value: Value::Null,
-        };
-    };
-    let value = w.value;
-    Next {
-        asked: true,
-        tag: w.tag,
-        value: value,
-    }
 }
 
 // The tags of the writes that wait, in queue order, into `list`.

@@ -2,16 +2,23 @@
 use mathlib.Core.Path.{_≡_, ap, _∙_}
 use mathlib.Core.Bool.{Bool}
 use mathlib.Core.List.{List}
-use Prim.Native.Nat.{ℕ, min}
+use Prim.Native.Nat.{ℕ, _≤_, min}
+use native.Mathlib.Omega.{arith}
 use lib.Ieee.{Float}
 use lib.IntN.{ℤ}
 use lib.ListN.{length}
+use lib.Seq.{take-all}
 use Rattle.lists.specs.Keep.{keep, upTo}
+use Rattle.lists.proofs.KeepLaws.{length-keep, length-upTo}
 use Rattle.tags.specs.Lists.{listIn, member, fitted}
+use Rattle.table.specs.Table.{byRank}
 use Rattle.table.specs.declared.tag.Tag.{Tag}
 use Rattle.lent.specs.Lent.{cellBytes, wroteAll}
+use Rattle.names.specs.Directory.{maxNames}
+use Rattle.board.specs.Layout.{IsBoard}
 use Rattle.board.specs.Board.{Board, Holds, boardIn}
-use Rattle.readings.specs.Listed.{Applying, Applied, applyAll, inTagOrder}
+use Rattle.board.proofs.BoardLaws.{tags-counted}
+use Rattle.readings.specs.Listed.{Applied, applyAll, inTagOrder}
 use Rattle.readings.specs.Changes.{Changed, Changing, appliedTo, changesIn}
 
 -- The list told is that of C, and bs' holds its board.
@@ -31,21 +38,22 @@ told C bs' list out out' r h l n w =
 order-by-length : (old new : List Tag) (sent : List ℕ) → length new ≡ length old → inTagOrder new sent ≡ inTagOrder old sent
 order-by-length old new sent e = ap (λ (m : ℕ). keep (λ (k : ℕ). member k sent) (upTo (min m 65536))) e
 
--- The readings applied, and told by a table as long as it was. Both lists for them had the room n.
-pub applied-told : (B : Board) (results : List ℕ) (start : Float) (t : ℤ) (polled : Bool) (n m : ℕ) (bs' sent' out out' : List ℕ) (r : ℕ)
-    → n ≡ B .askedRoom → m ≡ B .askedRoom → length (boardIn bs' .table .tags) ≡ length (B .table .tags)
-    → Applied B (applyAll n results start t polled (B .asked) (B .table .tags)) bs' sent'
-    → r ≡ length (fitted m (inTagOrder (boardIn bs' .table .tags) (listIn sent')))
-    → out' ≡ wroteAll out (cellBytes (changesIn (boardIn bs') (fitted m (inTagOrder (boardIn bs' .table .tags) (listIn sent')))))
+-- A board has at most maxNames tags, and so has any choice of them.
+pub all-fit : (bs : List ℕ) → IsBoard bs → (n : ℕ) → maxNames ≤ n → (p : ℕ → Bool)
+    → fitted n (keep p (byRank (boardIn bs .table .tags))) ≡ keep p (byRank (boardIn bs .table .tags))
+all-fit bs h n r p =
+    let tags = boardIn bs .table .tags in
+    take-all n (keep p (byRank tags)) (omega (arith, length-keep p (byRank tags), length-upTo (min (length tags) 65536), tags-counted bs h))
+
+-- The readings applied, and told by a table as long as it was.
+pub applied-told : (B : Board) (results : List ℕ) (start : Float) (t : ℤ) (polled : Bool) (bs' sent' out out' : List ℕ) (r : ℕ)
+    → length (boardIn bs' .table .tags) ≡ length (B .table .tags)
+    → Applied B (applyAll results start t polled (B .asked) (B .table .tags)) bs' sent'
+    → r ≡ length (inTagOrder (boardIn bs' .table .tags) (listIn sent'))
+    → out' ≡ wroteAll out (cellBytes (changesIn (boardIn bs') (inTagOrder (boardIn bs' .table .tags) (listIn sent'))))
     → Changing (appliedTo B results start t polled) r bs' out out'
 unfolding appliedTo
-applied-told B results start t polled n m bs' sent' out out' r en em long a er ew =
-    let A : ℕ → Applying = λ z. applyAll z results start t polled (B .asked) (B .table .tags) in
+applied-told B results start t polled bs' sent' out out' r long a er ew =
     let new = boardIn bs' .table .tags in
-    let list : fitted m (inTagOrder new (listIn sent')) ≡ fitted (B .askedRoom) (inTagOrder (B .table .tags) (A (B .askedRoom) .sent)) =
-    ap (fitted m) (order-by-length (B .table .tags) new (listIn sent') long)
-    ∙ ap (λ (z : List ℕ). fitted m (inTagOrder (B .table .tags) z)) (a .sent-is ∙ ap (λ (z : ℕ). A z .sent) en)
-    ∙ ap (λ (z : ℕ). fitted z (inTagOrder (B .table .tags) (A (B .askedRoom) .sent))) em
-    in
-    told (appliedTo B results start t polled) bs' (fitted m (inTagOrder new (listIn sent'))) out out' r
-    (rw en at (a .holds)) list er ew
+    told (appliedTo B results start t polled) bs' (inTagOrder new (listIn sent')) out out' r (a .holds)
+    (order-by-length (B .table .tags) new (listIn sent') long ∙ ap (inTagOrder (B .table .tags)) (a .sent-is)) er ew

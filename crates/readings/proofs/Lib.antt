@@ -1,6 +1,4 @@
--- Laws of rule 7. `OrderLaws`: what is applied in list order is rule 7's tag order.
-pub mod StaleLaws
+-- Laws of rule 7.
 pub mod ListedLaws
 pub mod ChangeLaws
 pub mod MarkLaws
-pub mod OrderLaws

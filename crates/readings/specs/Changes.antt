@@ -1,6 +1,6 @@
 -- Rule 7: what readings make of a board, and the changes told.
 use mathlib.Core.Bool.{Bool}
-use mathlib.Core.List.{List, map}
+use mathlib.Core.List.{List}
 use mathlib.Core.Path.{_≡_}
 use Prim.Native.Nat.{ℕ}
 use lib.Ieee.{Float}
@@ -8,10 +8,8 @@ use lib.IntN.{ℤ}
 use lib.ListN.{length}
 use Rattle.lent.specs.Lent.{cellBytes, records, wroteAll}
 use Rattle.lent.specs.Changes.{changeCells}
-use Rattle.tags.specs.Lists.{fitted}
 use Rattle.board.specs.Board.{Board, Holds, withRecords}
 use Rattle.readings.specs.Listed.{applyAll, inTagOrder}
-use Rattle.readings.specs.Stale.{tagStale, staledTags}
 
 -- Rule 7: a change is the tag and the eight cells of its published entry
 abbrev pub changesIn : Board → List ℕ → List ℕ
@@ -25,12 +23,8 @@ pub record Changed : Type 0 where
 -- Rule 7: the readings of the tags asked for
 unfoldable pub appliedTo : Board → List ℕ → Float → ℤ → Bool → Changed
 appliedTo B results start t polled =
-    let A = applyAll (B .askedRoom) results start t polled (B .asked) (B .table .tags) in
-    record { board = withRecords B (A .tags); changes = fitted (B .askedRoom) (inTagOrder (B .table .tags) (A .sent)) }
-
--- Rule 7: every cached tag not stale yet becomes stale
-unfoldable pub staledIn : Board → Changed
-staledIn B = record { board = withRecords B (map tagStale (B .table .tags)); changes = fitted (B .askedRoom) (staledTags (B .table .tags)) }
+    let A = applyAll results start t polled (B .asked) (B .table .tags) in
+    record { board = withRecords B (A .tags); changes = inTagOrder (B .table .tags) (A .sent) }
 
 -- What was changed is C: how many changes, the board afterwards, and the lent list.
 pub record Changing (C : Changed) (r : ℕ) (bs' out out' : List ℕ) : Type 0 where

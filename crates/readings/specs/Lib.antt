@@ -1,5 +1,3 @@
--- Rule 7: the readings of a list of tags, stale, and the changes told.
-pub mod Stale
+-- Rule 7: the readings of a list of tags, and the changes told.
 pub mod Listed
-pub mod Order
 pub mod Changes

@@ -3,15 +3,16 @@
 ghost use mathlib.Core.Path.{_≡_};
 ghost use mathlib.Core.Bool.{false};
 ghost use lib.ListN.{length};
-ghost use Rattle.tags.specs.Lists.{room};
+ghost use Prim.Native.Nat.{_≤_, _<_};
+ghost use Rattle.tags.specs.Lists.{listIn, room};
 ghost use Rattle.results.specs.Results.{resultCount, resultIn};
 ghost use Rattle.apply.specs.Apply.{appliedAt, sentAt};
-ghost use Rattle.board.specs.Layout.{IsBoard, partsIn, asked};
+ghost use Rattle.names.specs.Directory.{maxNames};
+ghost use Rattle.board.specs.Layout.{IsBoard};
 ghost use Rattle.board.specs.Board.{Holds, boardIn, withRecords};
 ghost use Rattle.readings.specs.Listed.{applying, applyNext, applyAll, Applied};
 ghost use Rattle.readings.specs.Changes.{appliedTo, Changing};
 use super::listed::tell_sent;
-use board::parts::asked_of;
 use board::parts::back_of;
 use board::starts::order_start;
 use board::starts::table_start;
@@ -41,7 +42,9 @@ fn kept_at(b: &[u8], i: usize) -> TagResult
 
 fn apply_next(b: &mut [u8], sent: &mut [u8], k: usize, i: usize, start: f64, t: i64)
     requires { ⌜ IsBoard (now b) ⌝ }
-    ensures { λ _. ⌜ Applied (boardIn (now (b .entry))) (applyNext (room (now (sent .entry))) (applying (now (b .entry)) (now (sent .entry))) k (resultIn (boardIn (now (b .entry)) .back) i) start t false) (now (b .exit)) (now (sent .exit)) ⌝ }
+    requires { ⌜ k < 65536 ⌝ }
+    requires { ⌜ length (listIn (now sent)) < room (now sent) ⌝ }
+    ensures { λ _. ⌜ Applied (boardIn (now (b .entry))) (applyNext (applying (now (b .entry)) (now (sent .entry))) k (resultIn (boardIn (now (b .entry)) .back) i) start t false) (now (b .exit)) (now (sent .exit)) ⌝ }
 {
     let r = kept_at(b, i);
     if apply_read(b, k, r, start, t) {
@@ -60,7 +63,8 @@ fn kept_count(b: &[u8]) -> usize
 // The tags that `sent` gets stand in the order in which they were asked for.
 fn apply_listed(b: &mut [u8], sent: &mut [u8], start: f64, t: i64)
     requires { ⌜ IsBoard (now b) ⌝ }
-    ensures { λ _. ⌜ Applied (boardIn (now (b .entry))) (applyAll (room (now (sent .entry))) (boardIn (now (b .entry)) .back) start t false (boardIn (now (b .entry)) .asked) (boardIn (now (b .entry)) .table .tags)) (now (b .exit)) (now (sent .exit)) ⌝ }
+    requires { ⌜ maxNames ≤ room (now sent) ⌝ }
+    ensures { λ _. ⌜ Applied (boardIn (now (b .entry))) (applyAll (boardIn (now (b .entry)) .back) start t false (boardIn (now (b .entry)) .asked) (boardIn (now (b .entry)) .table .tags)) (now (b .exit)) (now (sent .exit)) ⌝ }
 {
     clear(sent);
     let most = kept_count(b);
@@ -84,8 +88,8 @@ fn apply_within(
     t: i64,
 ) -> usize
     requires { ⌜ IsBoard (now b) ⌝ }
-    requires { ⌜ length (now sent) ≡ length (partsIn (now b) asked) ⌝ }
-    requires { ⌜ length (now changes) ≡ length (partsIn (now b) asked) ⌝ }
+    requires { ⌜ maxNames ≤ room (now sent) ⌝ }
+    requires { ⌜ maxNames ≤ room (now changes) ⌝ }
     ensures { λ r. ⌜ Changing (appliedTo (boardIn (now (b .entry))) (boardIn (now (b .entry)) .back) start t false) r (now (b .exit)) (now (out .entry)) (now (out .exit)) ⌝ }
 {
     apply_listed(b, sent, start, t);
@@ -99,6 +103,5 @@ pub fn apply_back(b: &mut [u8], out: &mut [u8], start: f64, t: i64) -> usize
 {
     let mut sent = [0u8; 2048];
     let mut changes = [0u8; 2048];
-    let n = asked_of(b).len();
-    apply_within(b, out, &mut sent[0..n], &mut changes[0..n], start, t)
+    apply_within(b, out, &mut sent, &mut changes, start, t)
 }

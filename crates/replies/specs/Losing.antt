@@ -11,7 +11,8 @@ use Rattle.heads.specs.declared.progress.Phase.the-variants.{Connect, Backoff, 
 use Rattle.engine.specs.Engine.{backoffAt}
 use Rattle.board.specs.Board.{withQueue}
 use Rattle.writes.specs.Failing.{queuedTags}
-use Rattle.readings.specs.Changes.{staledIn, changesIn}
+use Rattle.readings.specs.Changes.{changesIn}
+use Rattle.stale.specs.Stale.{staledIn}
 use Rattle.replies.specs.Reply as reply
 use Rattle.replies.specs.Worker.{Worker, Told, tell, asks, withBoard, phased, linked, stated}
 

@@ -17,7 +17,7 @@ use heads::link::with_state;
 use heads::progress::Phase;
 use heads::progress::with_phase;
 use heads::stats::more;
-use readings::stale::mark_stale;
+use stale::mark_stale;
 use writes::failing::fail_writes;
 
 // Something is asked or told, and the engine waits in the phase p.

@@ -9,7 +9,7 @@ use native.Mathlib.Omega.{arith}
 use borrow.Author.Tests.{ne-eqb}
 use lib.Dec.{eqb}
 use lib.ListN.{length, getD, set, take, drop, drop-of-length-le}
-use lib.Seq.{take-all, take-append-add, drop-cons, set-getD}
+use lib.Seq.{take-append-add, drop-cons, set-getD}
 use Rattle.lists.specs.Keep.{keep, Below}
 use Rattle.lists.proofs.KeepLaws.{keep-append, below-append, below-keep}
 use Rattle.memory.proofs.LoopLaws.{mapped, mapped-read, mapped-more}
@@ -149,8 +149,5 @@ unfolding keep
 keep-none p [] h = refl
 keep-none p (x ∷ l) h = rw (h x) (keep-none p l h)
 
-pub none-listed : (tags : List Tag) (n : ℕ) (b ks : List ℕ) → anyAdded tags ≡ false → length b ≤ n → b ≡ take n (b ++ keep (isAdded tags b) ks)
-none-listed tags n b ks e h =
-    sym (ap (λ (r : List ℕ). take n (b ++ r)) (keep-none (isAdded tags b) ks (λ k. rw (none-at tags k e)))
-    ∙ ap (take n) (append-nil b)
-    ∙ take-all n b h)
+pub none-listed : (tags : List Tag) (b ks : List ℕ) → anyAdded tags ≡ false → b ≡ b ++ keep (isAdded tags b) ks
+none-listed tags b ks e = sym (ap (λ (r : List ℕ). b ++ r) (keep-none (isAdded tags b) ks (λ k. rw (none-at tags k e))) ∙ append-nil b)

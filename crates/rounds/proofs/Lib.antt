@@ -3,7 +3,6 @@ pub mod AddedLaws
 pub mod DueLaws
 pub mod GraceLaws
 pub mod GracedLaws
-pub mod NameLaws
 pub mod OnceLaws
 pub mod RoundLaws
 pub mod TickLaws

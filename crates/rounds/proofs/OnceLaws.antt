@@ -1,4 +1,4 @@
--- Rule 6: the list of a round names no tag twice, and only tags of the table. So where lists have room for every tag of the table, none is cut.
+-- Rule 6: the list of a round names no tag twice, and only tags of the table. So there is room for it where there is for every tag of the table.
 use mathlib.Core.Path.{_≡_, refl, ap, sym, _∙_}
 use mathlib.Core.Bool.{Bool, true, false, not, _&&_, cond, true≢false}
 use mathlib.Core.List.{List, [], _∷_, _++_}
@@ -7,31 +7,31 @@ use native.Mathlib.Omega.{arith}
 use borrow.Author.Tests.{eqb-true, eq-eqb, ne-eqb}
 use lib.Dec.{eqb}
 use lib.Ieee.{Float, binary64, div}
-use lib.ListN.{length, getD, set, take, drop, length-set}
-use lib.Seq.{take-all}
+use lib.ListN.{length, getD, drop}
 use Rattle.ieee.specs.Round.{float, slicesOf}
 use Rattle.lists.specs.Keep.{keep, count, Below, upTo}
 use Rattle.lists.specs.Sort.{sort}
 use Rattle.lists.specs.Slices.{size, slice}
-use Rattle.lists.proofs.KeepLaws.{count-take, count-append, count-keep, count-keep-none, length-keep, below-append, below-keep, below-take, below-more}
+use Rattle.lists.proofs.KeepLaws.{count-take, count-append, count-keep, count-keep-none, below-append, below-keep, below-take, below-more}
 use Rattle.lists.proofs.CountLaws.{length-few}
 use Rattle.lists.proofs.SortLaws.{count-sort, below-sort}
-use Rattle.tags.specs.Lists.{member, fitted}
+use Rattle.tags.specs.Lists.{member}
 use Rattle.table.specs.Tag.{freshTag}
-use Rattle.table.specs.Table.{withLast, byRank}
+use Rattle.table.specs.Table.{byRank}
 use Rattle.table.specs.declared.tag.Tag.{Tag}
 use Rattle.board.specs.Board.{Table, tagAt}
 use Rattle.tiers.specs.Listed.{inTier, Listed}
 use Rattle.tiers.proofs.ListedLaws.{order-below}
 use Rattle.slices.specs.Slice.{isTier2, tier2Tags, sliceTaken}
-use Rattle.rounds.specs.Graces.{hasRunOut, runOut}
+use Rattle.rounds.specs.Graces.{runOut}
 use Rattle.rounds.specs.Due.{isDue, dueTags, marked}
 use Rattle.rounds.specs.Added.{isAdded, withAddedTags}
 use Rattle.rounds.specs.Missing.{isHeldBack, notHeldBack}
-use Rattle.rounds.specs.Round.{Polling, Rooms, Round, round}
-use Rattle.rounds.specs.declared.tick.Options.{Options}
+use Rattle.rounds.specs.Round.{Polling, Round, round}
+use Rattle.heads.specs.declared.options.Options.{Options}
 use Rattle.rounds.proofs.AddedLaws.{below-up-to}
-use Rattle.rounds.proofs.NameLaws.{listed-run-out, run-out-long, expired-below}
+use Rattle.rounds.proofs.DueLaws.{marked-part, marked-long}
+use Rattle.rounds.proofs.GraceLaws.{listed-run-out, run-out-long, expired-below}
 
 -- ---- parts of a list
 
@@ -120,32 +120,9 @@ module _ (T : Table) (l : Listed T) (p : ℕ → Bool) (n : ℕ) (in-tier : (k :
 pub order-once : (T : Table) → Listed T → (k : ℕ) → count k (T .order) ≤ 1
 order-once T l k = omega (arith, l .once k, few-in (tagAt T k .tier))
 
--- ---- the last reading times
-
-pub marked-long : (tags : List Tag) (clock : Float) (ks : List ℕ) → length (marked tags clock ks) ≡ length tags
-unfolding marked
-marked-long tags clock [] = refl
-marked-long tags clock (k ∷ ks) = marked-long (set tags k (withLast (getD tags k freshTag) clock)) clock ks ∙ length-set tags k (withLast (getD tags k freshTag) clock)
-
--- a part of a tag that a reading time leaves alone
-module _ {A : Type 0} (part : Tag → A) where
-  set-part : (tags : List Tag) (k : ℕ) (x : Tag) → part x ≡ part (getD tags k freshTag) → (j : ℕ) → part (getD (set tags k x) j freshTag) ≡ part (getD tags j freshTag)
-  set-part [] k x e j = refl
-  set-part (y ∷ l) zero x e zero = e
-  set-part (y ∷ l) zero x e (suc j) = refl
-  set-part (y ∷ l) (suc k) x e zero = refl
-  set-part (y ∷ l) (suc k) x e (suc j) = set-part l k x e j
-
-  pub marked-part : (clock : Float) → ((x : Tag) → part (withLast x clock) ≡ part x) → (tags : List Tag) (ks : List ℕ) (j : ℕ)
-      → part (getD (marked tags clock ks) j freshTag) ≡ part (getD tags j freshTag)
-  unfolding marked
-  marked-part clock h tags [] j = refl
-  marked-part clock h tags (k ∷ ks) j =
-      marked-part clock h (set tags k (withLast (getD tags k freshTag) clock)) ks j ∙ set-part tags k (withLast (getD tags k freshTag) clock) (h (getD tags k freshTag)) j
-
 -- ---- the lists of a round, over the table T that its graces leave
 
-module _ (less : ℕ → ℕ → Bool) (rooms : Rooms) (T : Table) (l : Listed T) (clock half cycle : Float) (boundary : Bool) (S i : ℕ) where
+module _ (less : ℕ → ℕ → Bool) (T : Table) (l : Listed T) (clock half cycle : Float) (boundary : Bool) (S i : ℕ) where
   abbrev rows : ℕ
   rows = length (T .tags)
 
@@ -153,39 +130,34 @@ module _ (less : ℕ → ℕ → Bool) (rooms : Rooms) (T : Table) (l : Listed T
   dueNow k = isDue (getD (T .tags) k freshTag) clock half cycle
 
   abbrev due : List ℕ
-  due = dueTags (rooms .wanted) (T .tags) (T .order) clock half cycle
+  due = dueTags (T .tags) (T .order) clock half cycle
 
   abbrev tags : List Tag
   tags = marked (T .tags) clock due
 
   abbrev tier2 : List ℕ
-  tier2 = tier2Tags less (rooms .sorted) tags (T .order)
+  tier2 = tier2Tags less tags (T .order)
 
   abbrev taken : List ℕ
   taken = sliceTaken boundary S tier2 i
 
-  abbrev polled : List ℕ
-  polled = fitted (rooms .wanted) (due ++ taken)
-
   abbrev wanted : List ℕ
-  wanted = withAddedTags (rooms .wanted) tags polled (byRank tags)
+  wanted = withAddedTags tags (due ++ taken) (byRank tags)
 
   abbrev list : List ℕ
-  list = notHeldBack (rooms .list) tags wanted clock
+  list = notHeldBack tags wanted clock
 
   -- ---- named once
 
   due-once : (k : ℕ) → count k due ≤ cond (eqb (tagAt T k .tier) 1) 1 0
   unfolding isDue
-  due-once k =
-      omega (arith, count-take k (rooms .wanted) (keep dueNow (T .order)), tier-once T l dueNow 1 (λ j e. eqb-true (tagAt T j .tier) 1 (both-first (eqb (tagAt T j .tier) 1) _ e)) k)
+  due-once k = tier-once T l dueNow 1 (λ j e. eqb-true (tagAt T j .tier) 1 (both-first (eqb (tagAt T j .tier) 1) _ e)) k
 
   tier2-once : (k : ℕ) → count k tier2 ≤ cond (eqb (tagAt T k .tier) 2) 1 0
   tier2-once k =
       omega (
         arith,
-        count-sort less k (fitted (rooms .sorted) (keep (isTier2 tags) (T .order))),
-        count-take k (rooms .sorted) (keep (isTier2 tags) (T .order)),
+        count-sort less k (keep (isTier2 tags) (T .order)),
         tier-once T l (isTier2 tags) 2 (λ j e. sym (marked-part (λ (x : Tag). x .tier) clock (λ x. refl) (T .tags) due j) ∙ eqb-true (getD tags j freshTag .tier) 2 e) k,
       )
 
@@ -217,28 +189,23 @@ module _ (less : ℕ → ℕ → Bool) (rooms : Rooms) (T : Table) (l : Listed T
           )
       go false e = omega (arith, once k, count-keep-none (isAdded tags base) k (byRank tags) e)
 
-  polled-once : (k : ℕ) → count k polled ≤ 1
-  polled-once k = omega (arith, count-take k (rooms .wanted) (due ++ taken), both-once k)
-
   wanted-once : (k : ℕ) → count k wanted ≤ 1
-  wanted-once k = omega (arith, count-take k (rooms .wanted) (polled ++ keep (isAdded tags polled) (byRank tags)), added-once polled polled-once k)
+  wanted-once = added-once (due ++ taken) both-once
 
   goes : ℕ → Bool
   goes k = not (isHeldBack (getD tags k freshTag) clock)
 
   list-once : (k : ℕ) → count k list ≤ 1
   unfolding goes
-  list-once k = omega (arith, count-take k (rooms .list) (keep goes wanted), count-kept goes k wanted, wanted-once k)
+  list-once k = omega (arith, count-kept goes k wanted, wanted-once k)
 
   -- ---- tags of the table
 
   due-below : Below rows due
-  due-below = below-take rows (rooms .wanted) (keep dueNow (T .order)) (below-keep rows dueNow (T .order) (order-below T l))
+  due-below = below-keep rows dueNow (T .order) (order-below T l)
 
   tier2-below : Below rows tier2
-  tier2-below =
-      below-sort rows less (fitted (rooms .sorted) (keep (isTier2 tags) (T .order)))
-      (below-take rows (rooms .sorted) (keep (isTier2 tags) (T .order)) (below-keep rows (isTier2 tags) (T .order) (order-below T l)))
+  tier2-below = below-sort rows less (keep (isTier2 tags) (T .order)) (below-keep rows (isTier2 tags) (T .order) (order-below T l))
 
   taken-below : Below rows taken
   taken-below = go boundary
@@ -257,64 +224,26 @@ module _ (less : ℕ → ℕ → Bool) (rooms : Rooms) (T : Table) (l : Listed T
   added-below base b = below-append rows base (keep (isAdded tags base) (byRank tags)) b (below-keep rows (isAdded tags base) (byRank tags) ranks-below)
 
   wanted-below : Below rows wanted
-  wanted-below =
-      below-take rows (rooms .wanted) (polled ++ keep (isAdded tags polled) (byRank tags)) (added-below polled (below-take rows (rooms .wanted) (due ++ taken) both-below))
+  wanted-below = added-below (due ++ taken) both-below
 
   list-below : Below rows list
   unfolding goes
-  list-below = below-take rows (rooms .list) (keep goes wanted) (below-keep rows goes wanted wanted-below)
-
-  -- ---- nothing is cut
-
-  order-few : length (T .order) ≤ rows
-  order-few = length-few rows (T .order) (order-below T l) (order-once T l)
-
-  due-whole : rows ≤ rooms .wanted → due ≡ keep dueNow (T .order)
-  due-whole h = take-all (rooms .wanted) (keep dueNow (T .order)) (omega (arith, length-keep dueNow (T .order), order-few))
-
-  tier2-whole : rows ≤ rooms .sorted → tier2 ≡ sort less (keep (isTier2 tags) (T .order))
-  tier2-whole h = ap (sort less) (take-all (rooms .sorted) (keep (isTier2 tags) (T .order)) (omega (arith, length-keep (isTier2 tags) (T .order), order-few)))
-
-  polled-whole : rows ≤ rooms .wanted → polled ≡ due ++ taken
-  polled-whole h = take-all (rooms .wanted) (due ++ taken) (omega (arith, length-few rows (due ++ taken) both-below both-once))
-
-  wanted-whole : rows ≤ rooms .wanted → wanted ≡ (due ++ taken) ++ keep (isAdded tags (due ++ taken)) (byRank tags)
-  wanted-whole h =
-      let all = (due ++ taken) ++ keep (isAdded tags (due ++ taken)) (byRank tags) in
-      ap (λ (base : List ℕ). fitted (rooms .wanted) (base ++ keep (isAdded tags base) (byRank tags))) (polled-whole h)
-      ∙ take-all (rooms .wanted) all (omega (arith, length-few rows all (added-below (due ++ taken) both-below) (added-once (due ++ taken) both-once)))
-
-  list-whole : rows ≤ rooms .list → list ≡ keep (λ (k : ℕ). not (isHeldBack (getD tags k freshTag) clock)) wanted
-  list-whole h =
-      take-all (rooms .list) (keep (λ (k : ℕ). not (isHeldBack (getD tags k freshTag) clock)) wanted)
-      (omega (arith, length-keep (λ (k : ℕ). not (isHeldBack (getD tags k freshTag) clock)) wanted, length-few rows wanted wanted-below wanted-once))
+  list-below = below-keep rows goes wanted wanted-below
 
 -- ---- the round
 
-module _ (less : ℕ → ℕ → Bool) (rooms : Rooms) (o : Options) (P : Polling) (clock : Float) where
+module _ (less : ℕ → ℕ → Bool) (o : Options) (P : Polling) (clock : Float) where
   abbrev R : Round
-  R = round less rooms o P clock
+  R = round less o P clock
 
   -- the table that the graces leave
   abbrev left : Table
   left = runOut (P .table) (R .ranOut)
 
-  -- its tags, those due read now
-  abbrev read : List Tag
-  read = marked (left .tags) clock (R .due)
-
-  -- Rule 6 with no list cut.
-  pub record Whole : Type 0 where
-    pub ran-out-all : R .ranOut ≡ cond (R .boundary) (keep (hasRunOut (P .table .tags) clock) (P .table .graces)) []
-    pub due-all : R .due ≡ keep (λ (k : ℕ). isDue (getD (left .tags) k freshTag) clock (div binary64 (R .tick) (float 2)) (o .cycle)) (left .order)
-    pub tier2-all : R .tier2 ≡ sort less (keep (isTier2 read) (left .order))
-    pub wanted-all : R .wanted ≡ (R .due ++ R .slice) ++ keep (isAdded read (R .due ++ R .slice)) (byRank read)
-    pub list-all : R .list ≡ keep (λ (k : ℕ). not (isHeldBack (getD read k freshTag) clock)) (R .wanted)
-
   module _ (l : Listed (P .table)) where
     expired : Below (length (P .table .tags)) (R .ranOut)
     unfolding round
-    expired = expired-below (P .table) l (R .boundary) (rooms .wanted) clock
+    expired = expired-below (P .table) l (R .boundary) clock
 
     listed-left : Listed left
     listed-left = listed-run-out (P .table) (R .ranOut) l expired
@@ -328,32 +257,23 @@ module _ (less : ℕ → ℕ → Bool) (rooms : Rooms) (o : Options) (P : Pollin
     abbrev S : ℕ
     S = slicesOf (o .period) (o .cycle)
 
-    -- Rule 6: the list of a round names no tag twice.
+    -- Rule 6: the list of a round names no tag twice, so that it is no longer than the table.
     pub round-once : (k : ℕ) → count k (R .list) ≤ 1
     unfolding round
-    round-once = list-once less rooms left listed-left clock half (o .cycle) (R .boundary) S (P .cycle .index)
+    round-once = list-once less left listed-left clock half (o .cycle) (R .boundary) S (P .cycle .index)
 
     pub round-wanted-once : (k : ℕ) → count k (R .wanted) ≤ 1
     unfolding round
-    round-wanted-once = wanted-once less rooms left listed-left clock half (o .cycle) (R .boundary) S (P .cycle .index)
+    round-wanted-once = wanted-once less left listed-left clock half (o .cycle) (R .boundary) S (P .cycle .index)
 
     -- Rule 6: it names tags of the table alone.
     pub round-below : Below (length (P .table .tags)) (R .list)
     unfolding round
-    round-below = rw (sym left-long) (list-below less rooms left listed-left clock half (o .cycle) (R .boundary) S (P .cycle .index))
+    round-below = rw (sym left-long) (list-below less left listed-left clock half (o .cycle) (R .boundary) S (P .cycle .index))
+
+    pub round-short : length (R .list) ≤ length (P .table .tags)
+    round-short = length-few (length (P .table .tags)) (R .list) round-below round-once
 
     pub round-wanted-below : Below (length (P .table .tags)) (R .wanted)
     unfolding round
-    round-wanted-below = rw (sym left-long) (wanted-below less rooms left listed-left clock half (o .cycle) (R .boundary) S (P .cycle .index))
-
-    -- With room for every tag of the table, and for the tags in grace, no list of a round is cut.
-    pub round-whole : length (P .table .tags) ≤ rooms .sorted → length (P .table .tags) ≤ rooms .wanted → length (P .table .tags) ≤ rooms .list
-        → length (P .table .graces) ≤ rooms .wanted → Whole
-    unfolding round
-    round-whole sorted wanted list graces = record {
-      ran-out-all = ap (λ (r : List ℕ). cond (R .boundary) r []) (take-all (rooms .wanted) (keep (hasRunOut (P .table .tags) clock) (P .table .graces)) (omega (arith, length-keep (hasRunOut (P .table .tags) clock) (P .table .graces))));
-      due-all = due-whole less rooms left listed-left clock half (o .cycle) (R .boundary) S (P .cycle .index) (rw left-long wanted);
-      tier2-all = tier2-whole less rooms left listed-left clock half (o .cycle) (R .boundary) S (P .cycle .index) (rw left-long sorted);
-      wanted-all = wanted-whole less rooms left listed-left clock half (o .cycle) (R .boundary) S (P .cycle .index) (rw left-long wanted);
-      list-all = list-whole less rooms left listed-left clock half (o .cycle) (R .boundary) S (P .cycle .index) (rw left-long list);
-    }
+    round-wanted-below = rw (sym left-long) (wanted-below less left listed-left clock half (o .cycle) (R .boundary) S (P .cycle .index))

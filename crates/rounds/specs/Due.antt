@@ -11,7 +11,6 @@ use Rattle.table.specs.Tag.{freshTag}
 use Rattle.table.specs.Table.{withLast}
 use Rattle.table.specs.declared.tag.Tag.{Tag}
 use Rattle.groups.specs.Groups.{Groups, noted}
-use Rattle.tags.specs.Lists.{fitted}
 use Rattle.rounds.specs.Tick.{rateOf}
 
 -- Rule 6: a tier-1 tag is due if now + tick/2 >= last + rate; never read is always due.
@@ -19,8 +18,8 @@ unfoldable pub isDue : Tag → Float → Float → Float → Bool
 isDue x clock half cycle = eqb (x .tier) 1 && (not (x .timing .read) || dueAt clock half (x .timing .last) (rateOf (x .settings) cycle))
 
 -- Rule 6: due tags stand in table order.
-abbrev pub dueTags : ℕ → List Tag → List ℕ → Float → Float → Float → List ℕ
-dueTags room tags order clock half cycle = fitted room (keep (λ (k : ℕ). isDue (getD tags k freshTag) clock half cycle) order)
+abbrev pub dueTags : List Tag → List ℕ → Float → Float → Float → List ℕ
+dueTags tags order clock half cycle = keep (λ (k : ℕ). isDue (getD tags k freshTag) clock half cycle) order
 
 -- Rule 6: the last reading time of the tags of a list is set.
 unfoldable pub marked : List Tag → Float → List ℕ → List Tag

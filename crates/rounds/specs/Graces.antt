@@ -9,18 +9,17 @@ use Rattle.table.specs.Tag.{freshTag}
 use Rattle.table.specs.declared.tag.Tag.{Tag}
 use Rattle.tiers.specs.Tiers.{setTable}
 use Rattle.board.specs.Board.{Table, tagAt}
-use Rattle.tags.specs.Lists.{fitted}
 
 abbrev pub hasRunOut : List Tag → Float → ℕ → Bool
 hasRunOut tags clock k = le (getD tags k freshTag .grace .deadline) clock
 
 -- the tags whose grace has run out
-abbrev pub expired : ℕ → List Tag → List ℕ → Float → List ℕ
-expired room tags graces clock = fitted room (keep (hasRunOut tags clock) graces)
+abbrev pub expired : List Tag → List ℕ → Float → List ℕ
+expired tags graces clock = keep (hasRunOut tags clock) graces
 
 -- Rule 6: graces run out at a boundary alone.
-abbrev pub expiredAt : Bool → ℕ → List Tag → List ℕ → Float → List ℕ
-expiredAt boundary room tags graces clock = cond boundary (expired room tags graces clock) []
+abbrev pub expiredAt : Bool → List Tag → List ℕ → Float → List ℕ
+expiredAt boundary tags graces clock = cond boundary (expired tags graces clock) []
 
 -- each goes where it was to go after its grace
 unfoldable pub runOut : Table → List ℕ → Table

@@ -1,5 +1,4 @@
 -- Rule 6, part by part, and the round whole.
-pub mod Options
 pub mod Tick
 pub mod Graces
 pub mod Due

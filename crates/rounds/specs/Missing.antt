@@ -8,10 +8,9 @@ use Rattle.ieee.specs.Times.{heldBack}
 use Rattle.lists.specs.Keep.{keep}
 use Rattle.table.specs.Tag.{freshTag}
 use Rattle.table.specs.declared.tag.Tag.{Tag}
-use Rattle.tags.specs.Lists.{fitted}
 
 abbrev pub isHeldBack : Tag → Float → Bool
 isHeldBack x clock = x .timing .missing && heldBack (x .timing .retry) clock
 
-abbrev pub notHeldBack : ℕ → List Tag → List ℕ → Float → List ℕ
-notHeldBack room tags wanted clock = fitted room (keep (λ (k : ℕ). not (isHeldBack (getD tags k freshTag) clock)) wanted)
+abbrev pub notHeldBack : List Tag → List ℕ → Float → List ℕ
+notHeldBack tags wanted clock = keep (λ (k : ℕ). not (isHeldBack (getD tags k freshTag) clock)) wanted

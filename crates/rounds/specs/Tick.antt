@@ -9,7 +9,7 @@ use Rattle.ieee.specs.Times.{least, dueAt, rateSeconds}
 use Rattle.table.specs.Tag.{freshTag}
 use Rattle.table.specs.declared.tag.Settings.{Settings}
 use Rattle.table.specs.declared.tag.Tag.{Tag}
-use Rattle.rounds.specs.declared.tick.Cycle.{Cycle}
+use Rattle.heads.specs.declared.cycle.Cycle.{Cycle}
 
 -- Rule 6: a tag's rate is its group's, rate / 1000, or the cycle without a group.
 abbrev pub rateOf : Settings → Float → Float

@@ -1,7 +1,7 @@
 // Tags new in tier 2.
 ghost use mathlib.Core.Path.{_≡_};
 ghost use mathlib.Core.List.{map};
-ghost use Rattle.tags.specs.Lists.{listIn, room};
+ghost use Rattle.tags.specs.Lists.{listIn, room, fitted};
 ghost use Rattle.table.specs.Table.{tableIn, byRank};
 ghost use Rattle.rounds.specs.Added.{anyAdded, withAddedTags, settled};
 use fields::added_of;
@@ -12,7 +12,7 @@ use tags::push;
 // The tags new in tier 2 that `list` does not have, by tag number, after what it has. A list can hold
 // tags below 65536.
 pub fn list_added(t: &[u8], list: &mut [u8])
-    ensures { λ _. ⌜ listIn (now (list .exit)) ≡ withAddedTags (room (now (list .entry))) (tableIn (now (t .entry))) (listIn (now (list .entry))) (byRank (tableIn (now (t .entry)))) ⌝ }
+    ensures { λ _. ⌜ listIn (now (list .exit)) ≡ fitted (room (now (list .entry))) (withAddedTags (tableIn (now (t .entry))) (listIn (now (list .entry))) (byRank (tableIn (now (t .entry))))) ⌝ }
 {
     let rows = t.len() / 256;
     let n = if rows < 65536 { rows } else { 65536 };

@@ -1,7 +1,7 @@
 // The tier-1 tags that are due, and what is recorded of them.
 ghost use mathlib.Core.Path.{_≡_};
 ghost use lib.ListN.{getD};
-ghost use Rattle.tags.specs.Lists.{listIn, room};
+ghost use Rattle.tags.specs.Lists.{listIn, room, fitted};
 ghost use Rattle.table.specs.Tag.{freshTag};
 ghost use Rattle.table.specs.Table.{tableIn};
 ghost use Rattle.board.specs.Layout.{IsBoard};
@@ -35,7 +35,7 @@ pub fn is_tag_due(t: &[u8], k: usize, clock: f64, half: f64, cycle: f64) -> bool
 
 // The due tags, in table order, into `list`.
 pub fn list_due(t: &[u8], order: &[u8], list: &mut [u8], clock: f64, half: f64, cycle: f64)
-    ensures { λ _. ⌜ listIn (now (list .exit)) ≡ dueTags (room (now (list .entry))) (tableIn (now (t .entry))) (listIn (now (order .entry))) clock half cycle ⌝ }
+    ensures { λ _. ⌜ listIn (now (list .exit)) ≡ fitted (room (now (list .entry))) (dueTags (tableIn (now (t .entry))) (listIn (now (order .entry))) clock half cycle) ⌝ }
 {
     clear(list);
     let n = count(order);

@@ -1,6 +1,8 @@
 // Graces that run out at a boundary.
 ghost use mathlib.Core.Path.{_≡_};
-ghost use Rattle.tags.specs.Lists.{listIn, room};
+ghost use Prim.Native.Nat.{_≤_};
+ghost use Rattle.names.specs.Directory.{maxNames};
+ghost use Rattle.tags.specs.Lists.{listIn, room, fitted};
 ghost use Rattle.table.specs.Table.{tableIn};
 ghost use Rattle.board.specs.Layout.{IsBoard};
 ghost use Rattle.board.specs.Board.{Holds, boardIn, withTable};
@@ -16,7 +18,7 @@ use tiers::set::set;
 
 // The tags whose grace has run out, in grace order, into `list`.
 pub fn list_expired(t: &[u8], graces: &[u8], list: &mut [u8], clock: f64)
-    ensures { λ _. ⌜ listIn (now (list .exit)) ≡ expired (room (now (list .entry))) (tableIn (now (t .entry))) (listIn (now (graces .entry))) clock ⌝ }
+    ensures { λ _. ⌜ listIn (now (list .exit)) ≡ fitted (room (now (list .entry))) (expired (tableIn (now (t .entry))) (listIn (now (graces .entry))) clock) ⌝ }
 {
     clear(list);
     let n = count(graces);
@@ -49,7 +51,8 @@ pub fn run_out(b: &mut [u8], list: &[u8])
 // At a boundary the graces that are over run out; `list` is overwritten.
 pub fn expire(b: &mut [u8], list: &mut [u8], clock: f64, boundary: bool)
     requires { ⌜ IsBoard (now b) ⌝ }
-    ensures { λ _. ⌜ Holds (now (b .exit)) (withTable (boardIn (now (b .entry))) (runOut (boardIn (now (b .entry)) .table) (expiredAt boundary (room (now (list .entry))) (boardIn (now (b .entry)) .table .tags) (boardIn (now (b .entry)) .table .graces) clock))) ⌝ }
+    requires { ⌜ maxNames ≤ room (now list) ⌝ }
+    ensures { λ _. ⌜ Holds (now (b .exit)) (withTable (boardIn (now (b .entry))) (runOut (boardIn (now (b .entry)) .table) (expiredAt boundary (boardIn (now (b .entry)) .table .tags) (boardIn (now (b .entry)) .table .graces) clock))) ⌝ }
 {
     if !boundary {
         return;

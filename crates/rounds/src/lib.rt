@@ -3,7 +3,6 @@ pub mod added;
 pub mod due;
 pub mod graces;
 pub mod missing;
-pub mod options;
 pub mod round;
 pub mod steps;
 pub mod tick;

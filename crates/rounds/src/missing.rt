@@ -2,7 +2,7 @@
 ghost use mathlib.Core.Path.{_≡_};
 ghost use Rattle.tags.specs.Lists.{listIn};
 ghost use Rattle.board.specs.Layout.{IsBoard};
-ghost use Rattle.board.specs.Board.{Holds, boardIn, tagAt, withAsked};
+ghost use Rattle.board.specs.Board.{Holds, boardIn, tagAt, asking};
 ghost use Rattle.rounds.specs.Missing.{isHeldBack, notHeldBack};
 use board::tag::timing_of;
 use board::tag_lists::clear_asked;
@@ -26,7 +26,7 @@ fn is_tag_held_back(b: &[u8], k: usize, clock: f64) -> bool
 // The tags of `wanted` that are not held back are those asked for.
 pub fn drop_missing(b: &mut [u8], wanted: &[u8], clock: f64)
     requires { ⌜ IsBoard (now b) ⌝ }
-    ensures { λ _. ⌜ Holds (now (b .exit)) (withAsked (boardIn (now (b .entry))) (notHeldBack (boardIn (now (b .entry)) .askedRoom) (boardIn (now (b .entry)) .table .tags) (listIn (now (wanted .entry))) clock)) ⌝ }
+    ensures { λ _. ⌜ Holds (now (b .exit)) (asking (boardIn (now (b .entry))) (notHeldBack (boardIn (now (b .entry)) .table .tags) (listIn (now (wanted .entry))) clock)) ⌝ }
 {
     clear_asked(b);
     let n = count(wanted);

@@ -1,10 +1,12 @@
 // Rule 6, whole: the Rust's `cycle_tags`.
 ghost use mathlib.Core.Path.{_≡_};
 ghost use mathlib.Core.List.{map};
+ghost use Prim.Native.Nat.{_+_, _*_, _≤_};
 ghost use lib.ListN.{length};
 ghost use Rattle.tags.specs.Lists.{listIn, room};
-ghost use Rattle.board.specs.Layout.{IsBoard, partsIn, asked};
-ghost use Rattle.board.specs.Board.{Holds, boardIn, withRecords, withGroups, withAsked};
+ghost use Rattle.names.specs.Directory.{maxNames};
+ghost use Rattle.board.specs.Layout.{IsBoard};
+ghost use Rattle.board.specs.Board.{Holds, boardIn, withRecords, withGroups, asking};
 ghost use Rattle.rounds.specs.Due.{dueTags, marked, recordedDue, noneSeen};
 ghost use Rattle.rounds.specs.Added.{withAddedTags, settled};
 ghost use Rattle.table.specs.Table.{byRank};
@@ -21,11 +23,10 @@ use super::steps::mark_due_in;
 use super::steps::settle_in;
 use super::steps::take_slice_in;
 use super::steps::tick_in;
-use super::tick::Cycle;
-use super::tick::Options;
 use super::tick::is_boundary;
-use board::parts::asked_of;
 use board::parts::table_of;
+use heads::cycle::Cycle;
+use heads::options::Options;
 
 pub struct CycleTags {
     pub tick: f64,
@@ -53,7 +54,8 @@ fn cycle_after(c: Cycle, boundary: bool, clock: f64, index: u64) -> Cycle
 // The due tags into `wanted`, with what is recorded of them.
 fn read_due(b: &mut [u8], wanted: &mut [u8], clock: f64, half: f64, cycle: f64)
     requires { ⌜ IsBoard (now b) ⌝ }
-    ensures { λ _. ⌜ listIn (now (wanted .exit)) ≡ dueTags (room (now (wanted .entry))) (boardIn (now (b .entry)) .table .tags) (boardIn (now (b .entry)) .table .order) clock half cycle ⌝ }
+    requires { ⌜ maxNames ≤ room (now wanted) ⌝ }
+    ensures { λ _. ⌜ listIn (now (wanted .exit)) ≡ dueTags (boardIn (now (b .entry)) .table .tags) (boardIn (now (b .entry)) .table .order) clock half cycle ⌝ }
     ensures { λ _. ⌜ Holds (now (b .exit))
         (withGroups (withRecords (boardIn (now (b .entry))) (marked (boardIn (now (b .entry)) .table .tags) clock (listIn (now (wanted .exit)))))
         (recordedDue (marked (boardIn (now (b .entry)) .table .tags) clock (listIn (now (wanted .exit)))) clock noneSeen (boardIn (now (b .entry)) .groups) (listIn (now (wanted .exit))))) ⌝ }
@@ -67,10 +69,11 @@ fn read_due(b: &mut [u8], wanted: &mut [u8], clock: f64, half: f64, cycle: f64)
 // new any more.
 fn list_round(b: &mut [u8], wanted: &mut [u8], clock: f64)
     requires { ⌜ IsBoard (now b) ⌝ }
+    requires { ⌜ length (listIn (now wanted)) + maxNames ≤ room (now wanted) ⌝ }
     ensures { λ _. ⌜ Holds (now (b .exit))
-        (withAsked (withRecords (boardIn (now (b .entry))) (map settled (boardIn (now (b .entry)) .table .tags)))
-        (notHeldBack (boardIn (now (b .entry)) .askedRoom) (boardIn (now (b .entry)) .table .tags)
-        (withAddedTags (room (now (wanted .entry))) (boardIn (now (b .entry)) .table .tags) (listIn (now (wanted .entry))) (byRank (boardIn (now (b .entry)) .table .tags))) clock)) ⌝ }
+        (asking (withRecords (boardIn (now (b .entry))) (map settled (boardIn (now (b .entry)) .table .tags)))
+        (notHeldBack (boardIn (now (b .entry)) .table .tags)
+        (withAddedTags (boardIn (now (b .entry)) .table .tags) (listIn (now (wanted .entry))) (byRank (boardIn (now (b .entry)) .table .tags))) clock)) ⌝ }
 {
     if any_added(table_of(b)) {
         list_added(table_of(b), wanted);
@@ -81,7 +84,8 @@ fn list_round(b: &mut [u8], wanted: &mut [u8], clock: f64)
     drop_missing(b, wanted, clock);
 }
 
-// The round, with two lists to work in.
+// The round, with two lists to work in. The due tags and the slice are tags of the order in different tiers, and the new ones
+// are tags of the table: so `wanted` has room for all if it has it for twice the names.
 fn cycle_in(
     b: &mut [u8],
     sorted: &mut [u8],
@@ -91,8 +95,8 @@ fn cycle_in(
     clock: f64,
 ) -> CycleTags
     requires { ⌜ IsBoard (now b) ⌝ }
-    requires { ⌜ length (now sorted) ≡ length (partsIn (now b) asked) ⌝ }
-    requires { ⌜ length (now wanted) ≡ length (partsIn (now b) asked) ⌝ }
+    requires { ⌜ maxNames ≤ room (now sorted) ⌝ }
+    requires { ⌜ 2 * maxNames ≤ room (now wanted) ⌝ }
     ensures { λ r. ⌜ Worked (boardIn (now (b .entry))) (roundOf (boardIn (now (b .entry))) o c clock) r (now (b .exit)) ⌝ }
 {
     let cycle = o.cycle;
@@ -111,14 +115,13 @@ fn cycle_in(
     }
 }
 
-// A round at the clock time `clock`: the tags to read are those asked for. The lists it works in are as long as the
-// board's.
+// A round at the clock time `clock`: the tags to read are those asked for. The lists it works in have room for twice as
+// many tags as a directory can have names.
 pub fn cycle_tags(b: &mut [u8], o: Options, c: Cycle, clock: f64) -> CycleTags
     requires { ⌜ IsBoard (now b) ⌝ }
     ensures { λ r. ⌜ Worked (boardIn (now (b .entry))) (roundOf (boardIn (now (b .entry))) o c clock) r (now (b .exit)) ⌝ }
 {
     let mut sorted = [0u8; 2048];
     let mut wanted = [0u8; 2048];
-    let n = asked_of(b).len();
-    cycle_in(b, &mut sorted[0..n], &mut wanted[0..n], o, c, clock)
+    cycle_in(b, &mut sorted, &mut wanted, o, c, clock)
 }

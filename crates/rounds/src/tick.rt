@@ -5,27 +5,13 @@ ghost use Rattle.table.specs.Table.{tableIn};
 ghost use Rattle.rounds.specs.Tick.{rateOf, tickOf, boundaryAt};
 use fields::settings_of;
 use fields::tier_of;
+use heads::cycle::Cycle;
 use ieee::times::is_due;
 use ieee::times::lesser;
 use ieee::times::rate_seconds;
 use table::tag::Settings;
 use tags::at;
 use tags::count;
-
-// In seconds.
-#[repr(C)]
-pub struct Options {
-    pub cycle: f64,
-    pub period: f64,
-    pub grace: f64,
-}
-
-// The last boundary, if there was one, and the index of the next slice.
-pub struct Cycle {
-    pub begun: bool,
-    pub last: f64,
-    pub index: u64,
-}
 
 // The rate of a tag in seconds: its group's, or the cycle.
 pub fn rate_of(s: Settings, cycle: f64) -> f64

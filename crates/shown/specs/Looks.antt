@@ -14,8 +14,8 @@ use Rattle.panel.specs.Panel.{panelOf, written, writtenLength}
 use Rattle.lent.specs.Lent.{cellBytes, wroteAll}
 use Rattle.statistics.specs.Counts.{tierCount}
 use Rattle.statistics.specs.Stats.{Facts, groupStats, groupsTold}
-use Rattle.versions.specs.declared.version.Version.{Version}
-use Rattle.versions.specs.declared.version.Version.the-variants.{Null as NoVersion, Is as AVersion}
+use Rattle.heads.specs.declared.version.Version.{Version}
+use Rattle.heads.specs.declared.version.Version.the-variants.{Null as NoVersion, Is as AVersion}
 use Rattle.heads.specs.Link.{stateNumber}
 use Rattle.heads.specs.declared.link.Link.{Link}
 use Rattle.heads.specs.declared.stats.Stats.{Stats}

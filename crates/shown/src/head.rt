@@ -4,7 +4,7 @@ ghost use Rattle.shown.specs.Looks.{knownCell, versionCell, stateOf, noS
 use heads::link::Link;
 use heads::link::state_number;
 use heads::stats::Stats;
-use versions::version::Version;
+use heads::version::Version;
 
 // The state, and the version: known is 0 where it is null.
 #[repr(C)]

@@ -5,6 +5,8 @@ use super::state::Next;
 use super::state::State;
 use board::parts::asked_of;
 use board::starts::size_for;
+use heads::cycle::Cycle;
+use heads::options::Options;
 use ieee::times::is_clock;
 use ieee::times::seconds;
 use libc::STDOUT_FILENO;
@@ -12,8 +14,6 @@ use listing::line::Line;
 use listing::write::put_line;
 use names::directory::MAX_NAMES;
 use rounds::round::cycle_tags;
-use rounds::tick::Cycle;
-use rounds::tick::Options;
 use tiers::grace::set_tier;
 
 // `s`: time, tag and tier are checked in this order.

@@ -4,10 +4,10 @@ use super::state::Next;
 use super::state::State;
 use board::starts::tags_in;
 use fresh::create;
+use heads::options::Options;
 use ieee::times::seconds;
 use names::directory::MAX_NAME_LENGTH;
 use names::directory::MAX_NAMES;
-use rounds::tick::Options;
 
 // `o`: the first line, and no other.
 pub fn take_options(s: State, cycle: u64, period: u64, grace: u64) -> Next {
@@ -19,7 +19,7 @@ pub fn take_options(s: State, cycle: u64, period: u64, grace: u64) -> Next {
         period: seconds(period),
         grace: seconds(grace),
     };
-    if rounds::options::check_options(o) != 0 {
+    if heads::options::check_options(o) != 0 {
         return Next::End;
     }
     let c = s.cycle;

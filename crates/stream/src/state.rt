@@ -1,6 +1,6 @@
 // How far a listing has come.
-use rounds::tick::Cycle;
-use rounds::tick::Options;
+use heads::cycle::Cycle;
+use heads::options::Options;
 
 // stage: 0 before the options, 1 while names come, 2 from the first `s` or `c` on. `used` is how many bytes of names
 // there are, `clock` the last time accepted.

@@ -57,7 +57,7 @@ module _ (T : Table) (g : Graced T) where
     ended-is j false e = ended-other (T .graces) k (tagAt T k .grace .on) j (eqb-false j k e)
 
     -- there is room for one more
-    ended-short : length ended < T .graceRoom
+    ended-short : length ended < T .room
     ended-short =
         omega (
           arith,
@@ -99,13 +99,13 @@ module _ (T : Table) (g : Graced T) where
     graced-enter deadline after =
         let x = withGrace (tagSet (tagAt T k) (isBit T k) 2) (graceUntil deadline after) in
         record {
-          once = replaced x (pushed (T .graceRoom) ended k) (pushed-is k true (eq-eqb k k refl)) (λ j d. pushed-is j false (ne-eqb j k d));
+          once = replaced x (pushed (T .room) ended k) (pushed-is k true (eq-eqb k k refl)) (λ j d. pushed-is j false (ne-eqb j k d));
           enough = rw (length-set (T .tags) k x) (g .enough);
         }
       where
-        pushed-is : (j : ℕ) (b : Bool) → eqb j k ≡ b → count j (pushed (T .graceRoom) ended k) ≡ cond b 1 (count j (T .graces))
-        pushed-is j true e = rw (pushed-more (T .graceRoom) ended k ended-short, count-append j ended (k ∷ []), e) (omega (arith, ended-is j true e))
-        pushed-is j false e = rw (pushed-more (T .graceRoom) ended k ended-short, count-append j ended (k ∷ []), e) (omega (arith, ended-is j false e))
+        pushed-is : (j : ℕ) (b : Bool) → eqb j k ≡ b → count j (pushed (T .room) ended k) ≡ cond b 1 (count j (T .graces))
+        pushed-is j true e = rw (pushed-more (T .room) ended k ended-short, count-append j ended (k ∷ []), e) (omega (arith, ended-is j true e))
+        pushed-is j false e = rw (pushed-more (T .room) ended k ended-short, count-append j ended (k ∷ []), e) (omega (arith, ended-is j false e))
 
     pub graced-change : (after : ℕ) → tagAt T k .grace .on ≡ true → Graced (changeGrace T k after)
     graced-change after on =

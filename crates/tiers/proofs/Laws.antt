@@ -51,7 +51,7 @@ set-at-once T k tier grace clock e = rw e (go (eqb tier 1) (eqb tier 2))
 pub put-steps : (B B1 B2 B3 B4 : Board) (k tier : ℕ) (g : Grace)
     → B1 ≡ withTag B k (withStanding (tagAt (B .table) k) tier g (addedSet (tagAt (B .table) k) tier) (wantsSet (tagAt (B .table) k) (isBit (B .table) k) tier))
     → B2 ≡ withTag B1 k (keptFor (tagAt (B1 .table) k) tier)
-    → B3 ≡ withOrder B2 (orderSet (B2 .table .orderRoom) (B2 .table .order) k (tagAt (B .table) k .tier) tier)
+    → B3 ≡ withOrder B2 (orderSet (B2 .table .room) (B2 .table .order) k (tagAt (B .table) k .tier) tier)
     → B4 ≡ withGraces B3 (graceEnded (B3 .table .graces) k (tagAt (B .table) k .grace .on))
     → B4 ≡ withTable B (putTable (B .table) k tier g)
 unfolding putTable

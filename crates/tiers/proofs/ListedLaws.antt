@@ -72,7 +72,7 @@ module _ (T : Table) (l : Listed T) where
   pub order-below : Below (length (T .tags)) (T .order)
   order-below = below-counts (length (T .tags)) (T .order) (λ k h. l .once k ∙ ap (λ (x : Tag). inTier (x .tier)) (List·getD-eq-default (T .tags) freshTag h))
 
-  order-room : (k : ℕ) → k < length (T .tags) → tagAt T k .tier ≡ 0 → length (T .order) < T .orderRoom
+  order-room : (k : ℕ) → k < length (T .tags) → tagAt T k .tier ≡ 0 → length (T .order) < T .room
   order-room k h z = omega (arith, length-fewer (length (T .tags)) k (T .order) order-below order-once h (l .once k ∙ ap inTier z), l .enough)
 
   -- a tag put in a tier, with a grace or none
@@ -87,13 +87,13 @@ module _ (T : Table) (l : Listed T) where
       x : Tag
       x = withGrace (tagSet (tagAt T k) (isBit T k) tier) g
 
-      go : (j : ℕ) (b : Bool) → eqb j k ≡ b → count j (orderSet (T .orderRoom) (T .order) k (tagAt T k .tier) tier) ≡ inTier (getD (set (T .tags) k x) j freshTag .tier)
+      go : (j : ℕ) (b : Bool) → eqb j k ≡ b → count j (orderSet (T .room) (T .order) k (tagAt T k .tier) tier) ≡ inTier (getD (set (T .tags) k x) j freshTag .tier)
       go j true e =
           let s : j ≡ k = eqb-true j k e in
-          rw (s, at-same (T .tags) k x h) (order-same (T .orderRoom) k (T .order) (tagAt T k .tier) tier (l .once k) (order-room k h))
+          rw (s, at-same (T .tags) k x h) (order-same (T .room) k (T .order) (tagAt T k .tier) tier (l .once k) (order-room k h))
       go j false e =
           let d : j ≡ k → ⊥ = eqb-false j k e in
-          order-other (T .orderRoom) k (T .order) (tagAt T k .tier) tier j d ∙ l .once j ∙ ap (λ (y : Tag). inTier (y .tier)) (sym (at-other (T .tags) k x j d))
+          order-other (T .room) k (T .order) (tagAt T k .tier) tier j d ∙ l .once j ∙ ap (λ (y : Tag). inTier (y .tier)) (sym (at-other (T .tags) k x j d))
 
   -- Rule 5: a tag put in a tier at once.
   pub listed-set : (k tier : ℕ) → k < length (T .tags) → Listed (setTable T k tier)
@@ -137,7 +137,7 @@ module _ (T : Table) (l : Listed T) (k : ℕ) (h : k < length (T .tags)) where
       let m = putTable T k 2 (graceUntil deadline after) in
       let lm : Listed m = listed-put T l k 2 (graceUntil deadline after) h in
       let hm : k < length (m .tags) = rw (put-long 2 (graceUntil deadline after)) h in
-      record { once = lm .once; graced = below-pushed (length (m .tags)) (m .graceRoom) k (m .graces) (lm .graced) hm; enough = lm .enough }
+      record { once = lm .once; graced = below-pushed (length (m .tags)) (m .room) k (m .graces) (lm .graced) hm; enough = lm .enough }
 
   pub listed-change : (after : ℕ) → Listed (changeGrace T k after)
   listed-change after = listed-tag T l k (withGrace (tagAt T k) (graceUntil (tagAt T k .grace .deadline) after)) (T .graces) h refl (l .graced)

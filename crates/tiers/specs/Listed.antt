@@ -14,4 +14,4 @@ inTier (suc n) = 1
 pub record Listed (T : Table) : Type 0 where
   pub once : (k : ℕ) → count k (T .order) ≡ inTier (tagAt T k .tier)
   pub graced : Below (length (T .tags)) (T .graces)
-  pub enough : length (T .tags) ≤ T .orderRoom
+  pub enough : length (T .tags) ≤ T .room

@@ -69,10 +69,9 @@ graceEnded graces k on = cond on (without k graces) graces
 unfoldable pub putTable : Table → ℕ → ℕ → Grace → Table
 putTable T k tier g = record {
   tags = set (T .tags) k (withGrace (tagSet (tagAt T k) (isBit T k) tier) g);
-  order = orderSet (T .orderRoom) (T .order) k (tagAt T k .tier) tier;
+  order = orderSet (T .room) (T .order) k (tagAt T k .tier) tier;
   graces = graceEnded (T .graces) k (tagAt T k .grace .on);
-  orderRoom = T .orderRoom;
-  graceRoom = T .graceRoom;
+  room = T .room;
   words = T .words;
 }
 
@@ -82,7 +81,7 @@ setTable T k tier = putTable T k tier noGrace
 
 -- the table with one tag and the list of graces replaced
 abbrev pub withTagGraces : Table → ℕ → Tag → List ℕ → Table
-withTagGraces T k x graces = record { tags = set (T .tags) k x; order = T .order; graces = graces; orderRoom = T .orderRoom; graceRoom = T .graceRoom; words = T .words }
+withTagGraces T k x graces = record { tags = set (T .tags) k x; order = T .order; graces = graces; room = T .room; words = T .words }
 
 abbrev pub graceUntil : Float → ℕ → Grace
 graceUntil deadline after = record { on = true; deadline = deadline; after = after }
@@ -91,14 +90,14 @@ graceUntil deadline after = record { on = true; deadline = deadline; after = aft
 unfoldable pub enterGrace : Table → ℕ → Float → ℕ → Table
 enterGrace T k deadline after =
     let m = putTable T k 2 (graceUntil deadline after) in
-    record { tags = m .tags; order = m .order; graces = pushed (m .graceRoom) (m .graces) k; orderRoom = m .orderRoom; graceRoom = m .graceRoom; words = m .words }
+    record { tags = m .tags; order = m .order; graces = pushed (m .room) (m .graces) k; room = m .room; words = m .words }
 
 -- Rule 5: asked again in grace it changes only what follows.
 abbrev pub changedTags : List Tag → ℕ → ℕ → List Tag
 changedTags tags k after = set tags k (withGrace (getD tags k freshTag) (graceUntil (getD tags k freshTag .grace .deadline) after))
 
 abbrev pub changeGrace : Table → ℕ → ℕ → Table
-changeGrace T k after = record { tags = changedTags (T .tags) k after; order = T .order; graces = T .graces; orderRoom = T .orderRoom; graceRoom = T .graceRoom; words = T .words }
+changeGrace T k after = record { tags = changedTags (T .tags) k after; order = T .order; graces = T .graces; room = T .room; words = T .words }
 
 -- Rule 5: tiers 1 and 2, and every tier when grace is 0, take effect at once. Tier 3 or none from tier 1 becomes tier 2 with deadline clock + grace;
 -- asked again in grace it changes only what follows; otherwise at once.

@@ -47,7 +47,7 @@ fn forget_for(b: &mut [u8], k: usize, tier: u8)
 
 fn order_set(b: &mut [u8], k: u16, old: u8, new: u8)
     requires { ⌜ IsBoard (now b) ⌝ }
-    ensures { λ _. ⌜ Holds (now (b .exit)) (withOrder (boardIn (now (b .entry))) (orderSet (boardIn (now (b .entry)) .table .orderRoom) (boardIn (now (b .entry)) .table .order) k old new)) ⌝ }
+    ensures { λ _. ⌜ Holds (now (b .exit)) (withOrder (boardIn (now (b .entry))) (orderSet (boardIn (now (b .entry)) .table .room) (boardIn (now (b .entry)) .table .order) k old new)) ⌝ }
 {
     if old == 0 {
         if new != 0 {

@@ -28,8 +28,8 @@ use Rattle.tiers.specs.Listed.{Listed, inTier}
 use Rattle.tiers.proofs.ListedLaws.{listed-tier}
 use Rattle.panel.specs.Panel.{panelRoom, countIn, loaded, panelCheck, entryCheck, tagsOf, tiersOf}
 use Rattle.panel.proofs.LoadLaws.{long-tier, loaded-listed}
-use Rattle.rounds.specs.Options.{cycleOk, spanOk, optionsCheck}
-use Rattle.rounds.specs.declared.tick.Options.{Options}
+use Rattle.heads.specs.Options.{cycleOk, spanOk, optionsCheck}
+use Rattle.heads.specs.declared.options.Options.{Options}
 use Rattle.turns.proofs.TierLaws.{tier-same, tags-long}
 use Rattle.settings.specs.Settings.{settingsOk}
 use Rattle.settings.specs.Configured.{configuredOk}
@@ -44,7 +44,7 @@ use Rattle.capi.specs.Calls as calls
 use Rattle.checks.specs.Creation.{Setup, creationCheck}
 use Rattle.checks.proofs.Laws.{first-zero}
 use Rattle.capi.specs.Creation.{freshWorker}
-use Rattle.turns.specs.Calls.{Call, tier, load, steps, write, stop, lookState, lookStats, lookCounts, lookGroups, lookTable, lookPanel, lookTag, accepted, after}
+use Rattle.turns.specs.Calls.{Call, tier, load, steps, write, stop, look, accepted, after}
 use Rattle.turns.specs.Demand.{roundIn, event, Moment, moment}
 use Rattle.turns.proofs.RateLaws.{rated-same, tier-settings, load-settings, rated-taken}
 use Rattle.turns.proofs.InsideLaws.{inside-tier, inside-loaded, entries-inside}
@@ -97,7 +97,6 @@ module _ (o : Options) (ns : List (List ℕ)) (W : Worker) (s : Sound o ns W) wh
         listed = listed-tier T (s .listed) tag g to grace clock;
         inside = inside-tier (W .head .count) T (s .inside) tag h to grace clock;
         few = rw long (s .few);
-        room = rw long (s .room);
         count-same = s .count-same;
         keys-same = s .keys-same;
         rated = rated-same (setTier T tag to grace clock .tags) (T .tags) (tier-settings T tag to grace clock) (s .rated);
@@ -146,7 +145,6 @@ module _ (o : Options) (ns : List (List ℕ)) (W : Worker) (s : Sound o ns W) wh
         listed = loaded-listed T (tagsOf list) (tiersOf list) grace clock b (s .listed);
         inside = inside-loaded (W .head .count) T (tagsOf list) (tiersOf list) grace clock i (s .inside);
         few = rw long (s .few);
-        room = rw long (s .room);
         count-same = s .count-same;
         keys-same = s .keys-same;
         rated = rated-same (loaded T (tagsOf list) (tiersOf list) grace clock .tags) (T .tags) (load-settings T (tagsOf list) (tiersOf list) grace clock) (s .rated);
@@ -214,7 +212,6 @@ sound-fresh s e =
       };
       inside = record { order-inside = tt; graces-inside = tt };
       few = omega (arith, long);
-      room = omega (arith, long);
       count-same = sym (length-names (s .names) (s .ends));
       keys-same = refl;
       rated = rated-taken (length (s .ends)) (s .settings) (settings-good s e) false words rows;
@@ -246,7 +243,7 @@ module _ (o : Options) (ns : List (List ℕ)) where
   unfolding after
   keeps-wrote W tag kind word =
       let v = valueFrom kind word in
-      keeps-if (eqb (writeCheck W tag v) 0) (wrote W tag v) W (keeps-all W (wrote W tag v) refl refl refl refl refl refl refl)
+      keeps-if (eqb (writeCheck W tag v) 0) (wrote W tag v) W (keeps-all W (wrote W tag v) refl refl refl refl refl refl)
 
   -- every call keeps an engine sound
   pub sound-after : (c : Call) (W : Worker) → Sound o ns W → Sound o ns (after c W)
@@ -255,14 +252,8 @@ module _ (o : Options) (ns : List (List ℕ)) where
   sound-after (load clock list) W s = sound-if (loadCheck W clock list) _ W (sound-loaded o ns W s clock list) s
   sound-after (steps clock wall kind number message list out) W s = sound-step o ns W (at clock wall) (answerOf kind number message list) (length out) s
   sound-after (write tag kind word) W s = sound-kept W (after (write tag kind word) W) (keeps-wrote W tag kind word) o ns s
-  sound-after stop W s = sound-kept W (halted W) (keeps-all W (halted W) refl refl refl refl refl refl refl) o ns s
-  sound-after lookState W s = s
-  sound-after lookStats W s = s
-  sound-after lookCounts W s = s
-  sound-after (lookGroups out) W s = s
-  sound-after (lookTable out) W s = s
-  sound-after (lookPanel out) W s = s
-  sound-after (lookTag tag) W s = s
+  sound-after stop W s = sound-kept W (halted W) (keeps-all W (halted W) refl refl refl refl refl refl) o ns s
+  sound-after (look l) W s = s
 
   -- a tier call or a load, accepted or not, respects rule 6
   retiers : (b : Bool) (done W : Worker) → indexOf done ≡ indexOf W → Respects S indexOf listedOf W (cond b retiered quiet) (cond b done W)
@@ -282,14 +273,8 @@ module _ (o : Options) (ns : List (List ℕ)) where
   respects-after (load clock list) W s = retiers (eqb (loadCheck W clock list) 0) (calls.loaded W clock list) W refl
   respects-after (steps clock wall kind number message list out) W s = respects-step o ns W (at clock wall) (answerOf kind number message list) (length out) s
   respects-after (write tag kind word) W s = stays W (after (write tag kind word) W) (keeps-wrote W tag kind word)
-  respects-after stop W s = stays W (halted W) (keeps-all W (halted W) refl refl refl refl refl refl refl)
-  respects-after lookState W s = stays W W (keeps-refl W)
-  respects-after lookStats W s = stays W W (keeps-refl W)
-  respects-after lookCounts W s = stays W W (keeps-refl W)
-  respects-after (lookGroups out) W s = stays W W (keeps-refl W)
-  respects-after (lookTable out) W s = stays W W (keeps-refl W)
-  respects-after (lookPanel out) W s = stays W W (keeps-refl W)
-  respects-after (lookTag tag) W s = stays W W (keeps-refl W)
+  respects-after stop W s = stays W (halted W) (keeps-all W (halted W) refl refl refl refl refl refl)
+  respects-after (look l) W s = stays W W (keeps-refl W)
 
 -- ---- lists of calls
 

@@ -12,7 +12,7 @@ use Rattle.capi.specs.Memory.{IsEngine, sizeCheck, workerIn, Called}
 use Rattle.checks.specs.Calls.{tierCheck, loadCheck, writeCheck}
 use Rattle.capi.specs.Calls.{tiered, loaded, wrote, halted}
 use Rattle.capi.specs.Looks.{isEngine, stateLook, statsLook, countsLook, tagLook}
-use Rattle.turns.specs.Calls.{Call, tier, load, steps, write, stop, lookState, lookStats, lookCounts, lookGroups, lookTable, lookPanel, lookTag, Answer, numberIs, told, stateIs, statsAre, countsAre, listIs, tagIs, answer, after}
+use Rattle.turns.specs.Calls.{Call, tier, load, steps, write, stop, look, lookState, lookStats, lookCounts, lookGroups, lookTable, lookPanel, lookTag, Answer, numberIs, told, stateIs, statsAre, countsAre, listIs, tagIs, answer, after}
 use Rattle.turns.specs.Contracts.{Asked, Learnt}
 use Rattle.turns.proofs.Said.{tier-said, load-said, write-said, stop-said, step-said, state-said, stats-said, counts-said, groups-said, table-said, panel-said, tag-said, ready-said}
 
@@ -64,16 +64,16 @@ said (write tag kind word) old a new f p =
     let v = valueFrom kind word in
     numbered old f a new (p .0) (writeCheck (workerIn old) tag v) (wrote (workerIn old) tag v) (p .1) (write-said old new tag kind word (p .0) (p .2))
 said stop old a new f p = numbered old f a new (p .0) 0 (halted (workerIn old)) (p .1) (stop-said old new (p .0) (p .2))
-said lookState old a new f p = looked old f a _ new (p .1 ∙ ap stateIs (state-said old (p .0) (p .3) ∙ rw (is-engine old f))) (p .2)
-said lookStats old a new f p = looked old f a _ new (p .1 ∙ ap statsAre (stats-said old (p .0) (p .3) ∙ rw (is-engine old f))) (p .2)
-said lookCounts old a new f p = looked old f a _ new (p .1 ∙ ap countsAre (counts-said old (p .0) (p .3) ∙ rw (is-engine old f))) (p .2)
-said (lookGroups out) old a new f p =
+said (look lookState) old a new f p = looked old f a _ new (p .1 ∙ ap stateIs (state-said old (p .0) (p .3) ∙ rw (is-engine old f))) (p .2)
+said (look lookStats) old a new f p = looked old f a _ new (p .1 ∙ ap statsAre (stats-said old (p .0) (p .3) ∙ rw (is-engine old f))) (p .2)
+said (look lookCounts) old a new f p = looked old f a _ new (p .1 ∙ ap countsAre (counts-said old (p .0) (p .3) ∙ rw (is-engine old f))) (p .2)
+said (look (lookGroups out)) old a new f p =
     let c = groups-said old out (p .0) (p .1) (p .4) in
     looked old f a _ new (p .2 ∙ ap₂ listIs (c .0 ∙ rw (is-engine old f)) (c .1 ∙ rw (is-engine old f))) (p .3)
-said (lookTable out) old a new f p =
+said (look (lookTable out)) old a new f p =
     let c = table-said old out (p .0) (p .1) (p .4) in
     looked old f a _ new (p .2 ∙ ap₂ listIs (c .0 ∙ rw (is-engine old f)) (c .1 ∙ rw (is-engine old f))) (p .3)
-said (lookPanel out) old a new f p =
+said (look (lookPanel out)) old a new f p =
     let c = panel-said old out (p .0) (p .1) (p .4) in
     looked old f a _ new (p .2 ∙ ap₂ listIs (c .0 ∙ rw (is-engine old f)) (c .1 ∙ rw (is-engine old f))) (p .3)
-said (lookTag tag) old a new f p = looked old f a _ new (p .1 ∙ ap tagIs (tag-said old tag (p .0) (p .3) ∙ rw (is-engine old f))) (p .2)
+said (look (lookTag tag)) old a new f p = looked old f a _ new (p .1 ∙ ap tagIs (tag-said old tag (p .0) (p .3) ∙ rw (is-engine old f))) (p .2)

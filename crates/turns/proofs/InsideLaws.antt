@@ -43,7 +43,7 @@ module _ (n : ℕ) (T : Table) (i : Inside n T) (k : ℕ) (h : k < n) where
   inside-put tier g = record {
     order-inside =
         below-cond n (eqb (tagAt T k .tier) 0) _ _
-        (below-cond n (eqb tier 0) _ _ (i .order-inside) (below-pushed n (T .orderRoom) k (T .order) (i .order-inside) h))
+        (below-cond n (eqb tier 0) _ _ (i .order-inside) (below-pushed n (T .room) k (T .order) (i .order-inside) h))
         (below-cond n (eqb tier 0) _ _ (below-keep n (λ (x : ℕ). not (eqb k x)) (T .order) (i .order-inside)) (i .order-inside));
     graces-inside = below-cond n (tagAt T k .grace .on) _ _ (below-keep n (λ (x : ℕ). not (eqb k x)) (T .graces) (i .graces-inside)) (i .graces-inside);
   }
@@ -53,7 +53,7 @@ module _ (n : ℕ) (T : Table) (i : Inside n T) (k : ℕ) (h : k < n) where
   unfolding enterGrace putTable
   inside-enter deadline after =
       let m = inside-put 2 (graceUntil deadline after) in
-      record { order-inside = m .order-inside; graces-inside = below-pushed n (T .graceRoom) k (putTable T k 2 (graceUntil deadline after) .graces) (m .graces-inside) h }
+      record { order-inside = m .order-inside; graces-inside = below-pushed n (T .room) k (putTable T k 2 (graceUntil deadline after) .graces) (m .graces-inside) h }
 
   -- a grace that changes
   inside-change : (after : ℕ) → Inside n (changeGrace T k after)
@@ -81,9 +81,9 @@ inside-run-out n T [] i b = i
 inside-run-out n T (k ∷ ks) i b = inside-run-out n (setTable T k (tagAt T k .grace .after)) ks (inside-set n T i k (b .0) (tagAt T k .grace .after)) (b .1)
 
 -- the graces that have run out are among the graces
-pub expired-inside : (n : ℕ) (T : Table) → Inside n T → (boundary : Bool) (room : ℕ) (clock : Float) → Below n (expiredAt boundary room (T .tags) (T .graces) clock)
-expired-inside n T i true room clock = below-take n room (keep (hasRunOut (T .tags) clock) (T .graces)) (below-keep n (hasRunOut (T .tags) clock) (T .graces) (i .graces-inside))
-expired-inside n T i false room clock = tt
+pub expired-inside : (n : ℕ) (T : Table) → Inside n T → (boundary : Bool) (clock : Float) → Below n (expiredAt boundary (T .tags) (T .graces) clock)
+expired-inside n T i true clock = below-keep n (hasRunOut (T .tags) clock) (T .graces) (i .graces-inside)
+expired-inside n T i false clock = tt
 
 -- a load of tags of the directory
 pub inside-loaded : (n : ℕ) (T : Table) (ks ts : List ℕ) (grace clock : Float) → Below n ks → Inside n T → Inside n (loaded T ks ts grace clock)

@@ -17,9 +17,10 @@ use Rattle.apply.specs.Apply.{tagRead, tagApplied, appliedAt}
 use Rattle.results.specs.Results.{resultIn}
 use Rattle.readings.specs.Listed.{Applying, applyNext, applyFrom}
 use Rattle.descriptions.specs.Descriptions.{knownFrom}
-use Rattle.versions.specs.Versions.{tagTaken, takenAt, eachAt, tableTaken, versionTable, isChanged, takesSettings}
-use Rattle.versions.specs.declared.version.Version.{Version}
-use Rattle.rounds.specs.declared.tick.Cycle.{Cycle}
+use Rattle.heads.specs.Version.{isChanged}
+use Rattle.versions.specs.Versions.{tagTaken, takenAt, eachAt, tableTaken, versionTable, takesSettings}
+use Rattle.heads.specs.declared.version.Version.{Version}
+use Rattle.heads.specs.declared.cycle.Cycle.{Cycle}
 use Rattle.turns.proofs.TierLaws.{tiers, set-kept, tierOf, placeOf, places, places-tiers, places-settings}
 use Rattle.turns.proofs.TickLaws.{Rated}
 use Rattle.turns.proofs.RateLaws.{rated-same}
@@ -27,7 +28,7 @@ use Rattle.board.specs.Board.{withRecords, Table}
 use Rattle.replies.specs.Worker.{Worker, Told, tell}
 use Rattle.replies.specs.declared.reply.Reply.{Reply}
 
--- Options, directory, last boundary and slice index, clock, sort keys, rooms, order, graces, and the tier of each tag are the same in B as in A; and rates stay at
+-- Options, directory, last boundary and slice index, clock, sort keys, room, order, graces, and the tier of each tag are the same in B as in A; and rates stay at
 -- 1 ms or more.
 pub record Keeps (A B : Worker) : Type 0 where
   pub options-kept : B .head .options ≡ A .head .options
@@ -35,8 +36,7 @@ pub record Keeps (A B : Worker) : Type 0 where
   pub cycle-kept : B .head .cycle ≡ A .head .cycle
   pub clock-kept : B .head .clock ≡ A .head .clock
   pub keys-kept : B .board .keys ≡ A .board .keys
-  pub room-kept : B .board .askedRoom ≡ A .board .askedRoom
-  pub order-room-kept : B .board .table .orderRoom ≡ A .board .table .orderRoom
+  pub room-kept : B .board .table .room ≡ A .board .table .room
   pub order-kept : B .board .table .order ≡ A .board .table .order
   pub graces-kept : B .board .table .graces ≡ A .board .table .graces
   pub tiers-kept : tiers (B .board .table .tags) ≡ tiers (A .board .table .tags)
@@ -48,15 +48,14 @@ index-kept A B k = ap (λ (x : Cycle). x .index) (k .cycle-kept)
 
 -- the table and all else that is named is the same
 pub keeps-all : (A B : Worker) → B .head .options ≡ A .head .options → B .head .count ≡ A .head .count → B .head .cycle ≡ A .head .cycle → B .head .clock ≡ A .head .clock
-    → B .board .keys ≡ A .board .keys → B .board .askedRoom ≡ A .board .askedRoom → B .board .table ≡ A .board .table → Keeps A B
-keeps-all A B a b c d e f t = record {
+    → B .board .keys ≡ A .board .keys → B .board .table ≡ A .board .table → Keeps A B
+keeps-all A B a b c d e t = record {
   options-kept = a;
   count-kept = b;
   cycle-kept = c;
   clock-kept = d;
   keys-kept = e;
-  room-kept = f;
-  order-room-kept = ap (λ x. x .orderRoom) t;
+  room-kept = ap (λ x. x .room) t;
   order-kept = ap (λ x. x .order) t;
   graces-kept = ap (λ x. x .graces) t;
   tiers-kept = ap (λ x. tiers (x .tags)) t;
@@ -73,7 +72,6 @@ keeps-tags W tags e r = record {
   clock-kept = refl;
   keys-kept = refl;
   room-kept = refl;
-  order-room-kept = refl;
   order-kept = refl;
   graces-kept = refl;
   tiers-kept = e;
@@ -95,7 +93,6 @@ keeps-after A B C p q = record {
   clock-kept = q .clock-kept ∙ p .clock-kept;
   keys-kept = q .keys-kept ∙ p .keys-kept;
   room-kept = q .room-kept ∙ p .room-kept;
-  order-room-kept = q .order-room-kept ∙ p .order-room-kept;
   order-kept = q .order-kept ∙ p .order-kept;
   graces-kept = q .graces-kept ∙ p .graces-kept;
   tiers-kept = q .tiers-kept ∙ p .tiers-kept;
@@ -116,12 +113,12 @@ applied-places tags k r start t polled =
     cond-tags placeOf (eqb (getD tags k freshTag .tier) 0) tags _ tags refl (set-kept placeOf tags k (tagApplied (getD tags k freshTag) r start t polled) refl)
 
 -- so do all readings of an answer
-pub apply-places : (n : ℕ) (results : List ℕ) (start : Float) (t : ℤ) (polled : Bool) (i : ℕ) (ks : List ℕ) (S : Applying)
-    → places (applyFrom n results start t polled i ks S .tags) ≡ places (S .tags)
+pub apply-places : (results : List ℕ) (start : Float) (t : ℤ) (polled : Bool) (i : ℕ) (ks : List ℕ) (S : Applying)
+    → places (applyFrom results start t polled i ks S .tags) ≡ places (S .tags)
 unfolding applyFrom applyNext
-apply-places n results start t polled i [] S = refl
-apply-places n results start t polled i (k ∷ ks) S =
-    apply-places n results start t polled (suc i) ks (applyNext n S k (resultIn results i) start t polled) ∙ applied-places (S .tags) k (resultIn results i) start t polled
+apply-places results start t polled i [] S = refl
+apply-places results start t polled i (k ∷ ks) S =
+    apply-places results start t polled (suc i) ks (applyNext S k (resultIn results i) start t polled) ∙ applied-places (S .tags) k (resultIn results i) start t polled
 
 -- so do descriptions
 pub known-places : (f : ℕ → Description) (i : ℕ) (ks : List ℕ) (tags : List Tag) → places (knownFrom f i ks tags) ≡ places tags

@@ -13,20 +13,20 @@ use Rattle.names.specs.Directory.{namesOf, maxNames}
 use Rattle.names.specs.Keys.{byName}
 use Rattle.slices.specs.Slice.{tier2Tags}
 use Rattle.rounds.specs.Round.{Round}
-use Rattle.rounds.specs.declared.tick.Options.{Options}
+use Rattle.heads.specs.declared.options.Options.{Options}
 use Rattle.replies.specs.Worker.{Worker, At, Told, at}
 use Rattle.cycles.specs.Polling.{roundAt}
-use Rattle.worker.specs.Answers.{Answer, clocked, stepped, step}
+use Rattle.step_checks.specs.Awaited.{Answer}
+use Rattle.worker.specs.Steps.{clocked, stepped, step}
 use Rattle.capi.specs.Calls.{answerOf}
 use Rattle.checks.specs.Creation.{Setup}
-use Rattle.turns.specs.Calls.{Call, tier, load, steps, write, stop, lookState, lookStats, lookCounts, lookGroups, lookTable, lookPanel, lookTag}
+use Rattle.turns.specs.Calls.{Call, tier, load, steps, write, stop, look}
 use Rattle.turns.specs.Demand.{roundIn, tier2ByName, TookByName, moment, ByName}
-use Rattle.turns.proofs.TierLaws.{none-cut}
 use Rattle.turns.proofs.RoundLaws.{tier2-left, at-boundary}
 use Rattle.turns.proofs.NameLaws.{tier2-by-name}
 use Rattle.turns.proofs.StepLaws.{Did, nothing, oneRound, did-stepped, step-cases}
 use Rattle.turns.proofs.KeepLaws.{index-kept}
-use Rattle.turns.proofs.SoundLaws.{Sound, indexOf, sound-kept, less, rooms, P, round-listed, round-inside, round-room, sound-clocked}
+use Rattle.turns.proofs.SoundLaws.{Sound, indexOf, sound-kept, less, P, round-inside, sound-clocked}
 
 module _ (o : Options) (ns : List (List ℕ)) (few : length ns ≤ maxNames) where
   abbrev S : ℕ
@@ -36,11 +36,9 @@ module _ (o : Options) (ns : List (List ℕ)) (few : length ns ≤ maxNames) whe
   tier2-named : (M : Worker) (at : At) (s : Sound o ns M) → roundAt M at .tier2 ≡ tier2ByName ns (roundAt M at .after .table)
   tier2-named M at s =
       let T = roundAt M at .after .table in
-      let room = M .board .askedRoom in
-      sym (tier2-left (less o ns M at s) (rooms o ns M at s) (M .head .options) (P o ns M at s) (at .clock))
-      ∙ ap (λ (ks : List ℕ). tier2Tags (byKeys ks) room (T .tags) (T .order)) (s .keys-same)
-      ∙ tier2-by-name ns (omega arith) T (rw (← s .count-same) (round-inside o ns M at s)) room (T .tags)
-      ∙ ap (sort (byName ns)) (none-cut T (round-listed o ns M at s) room (round-room o ns M at s))
+      sym (tier2-left (less o ns M at s) (M .head .options) (P o ns M at s) (at .clock))
+      ∙ ap (λ (ks : List ℕ). tier2Tags (byKeys ks) (T .tags) (T .order)) (s .keys-same)
+      ∙ tier2-by-name ns (omega arith) T (rw (← s .count-same) (round-inside o ns M at s)) (T .tags)
 
   -- a round, if there was one
   did-by-name : (N : Worker) (at : At) (T : Told) → Sound o ns N → Did N at T → TookByName ns S (T .round) (indexOf N)
@@ -53,7 +51,7 @@ module _ (o : Options) (ns : List (List ℕ)) (few : length ns ≤ maxNames) whe
 
       slice-named : roundAt M at .boundary ≡ true → roundAt M at .slice ≡ slice S (tier2ByName ns (roundAt M at .after .table)) (indexOf N)
       slice-named b =
-          at-boundary (less o ns M at sm) (rooms o ns M at sm) (M .head .options) (P o ns M at sm) (at .clock) b .0
+          at-boundary (less o ns M at sm) (M .head .options) (P o ns M at sm) (at .clock) b .0
           ∙ ap (λ (x : Options). slice (slicesOf (x .period) (x .cycle)) (roundAt M at .tier2) (indexOf M)) (sm .options-same)
           ∙ ap (λ (l : List ℕ). slice S l (indexOf M)) (tier2-named M at sm)
           ∙ ap (slice S (tier2ByName ns (roundAt M at .after .table))) (index-kept N M k)
@@ -74,10 +72,4 @@ by-name s few (steps clock wall kind number message list out) W v =
     took-by-name (s .options) (namesOf (s .names) (s .ends)) few W (at clock wall) (answerOf kind number message list) (length out) v
 by-name s few (write tag kind word) W v = tt
 by-name s few stop W v = tt
-by-name s few lookState W v = tt
-by-name s few lookStats W v = tt
-by-name s few lookCounts W v = tt
-by-name s few (lookGroups out) W v = tt
-by-name s few (lookTable out) W v = tt
-by-name s few (lookPanel out) W v = tt
-by-name s few (lookTag tag) W v = tt
+by-name s few (look l) W v = tt

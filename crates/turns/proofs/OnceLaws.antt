@@ -14,7 +14,7 @@ use Rattle.ieee.specs.Round.{float}
 use Rattle.ieee.proofs.Order.{yes}
 use Rattle.table.specs.declared.tag.Tag.{Tag}
 use Rattle.lent.specs.Lent.{tagBytes}
-use Rattle.rounds.specs.Options.{cycleOk}
+use Rattle.heads.specs.Options.{cycleOk}
 use Rattle.rounds.specs.Round.{round as worked-round}
 use Rattle.queue.specs.Queue.{popped}
 use Rattle.queue.specs.declared.Popped.{Popped}
@@ -28,15 +28,16 @@ use Rattle.replies.specs.Worker.{Worker, At, at, Told, tell, asks, withBoard, p
 use Rattle.replies.specs.Reply as reply
 use Rattle.replies.specs.Losing.{isEmpty}
 use Rattle.cycles.specs.Polling.{elapsed, idle, tail, resume, writingOf, writing, checking, reading, roundAt, withWorked, polled, poll, lastly, finished}
-use Rattle.worker.specs.Answers.{Answer, contents, clocked, stepped}
+use Rattle.step_checks.specs.Awaited.{Answer, contents}
+use Rattle.worker.specs.Steps.{clocked, stepped}
 use Rattle.names.specs.Directory.{namesOf}
-use Rattle.rounds.specs.declared.tick.Options.{Options}
+use Rattle.heads.specs.declared.options.Options.{Options}
 use Rattle.histories.specs.Events.{Each}
 use Rattle.histories.specs.Histories.{atEach}
 use Rattle.capi.specs.Calls.{answerOf}
 use Rattle.checks.specs.Creation.{Setup, creationCheck}
 use Rattle.capi.specs.Creation.{freshWorker}
-use Rattle.turns.specs.Calls.{Call, tier, load, steps, write, stop, lookState, lookStats, lookCounts, lookGroups, lookTable, lookPanel, lookTag, after}
+use Rattle.turns.specs.Calls.{Call, tier, load, steps, write, stop, look, after}
 use Rattle.turns.specs.Demand.{moment}
 use Rattle.turns.specs.Once.{answeredTo, OnceAt, Once}
 use Rattle.turns.proofs.KeepLaws.{Keeps}
@@ -120,9 +121,9 @@ module _ (at : At) (f : T (finite (at .clock))) where
     pub poll-told : goesOn (poll W at) ≡ false
     unfolding poll polled resume
     poll-told =
-        told-if (W .head .link .stopping) _ _ (writing-told W End refl) (told-round (isEmpty (roundAt W at .list)))
+        told-if (W .head .link .stopping) _ _ (writing-told W End refl) (told-round (isEmpty (withWorked W at (roundAt W at) .board .asked)))
       where
-        told-round : (b : Bool) → goesOn (cond b (reading (withWorked W at (roundAt W at)) at) (tell (phased (withWorked W at (roundAt W at)) Read) (reply.read (length (roundAt W at .list))) (tagBytes (roundAt W at .list)))) ≡ false
+        told-round : (b : Bool) → goesOn (cond b (reading (withWorked W at (roundAt W at)) at) (tell (phased (withWorked W at (roundAt W at)) Read) (reply.read (length (withWorked W at (roundAt W at) .board .asked))) (tagBytes (withWorked W at (roundAt W at) .board .asked)))) ≡ false
         told-round true = reading-told (withWorked W at (roundAt W at)) begun-worked
         told-round false = refl
 
@@ -152,13 +153,7 @@ module _ (o : Options) (ns : List (List ℕ)) (c : cycleOk (o .cycle) ≡ true) 
   once-call (steps clock wall kind number message list out) W s = λ e. once-at W (at clock wall) (answerOf kind number message list) s (accepted-step W (at clock wall) (answerOf kind number message list) (length out) e)
   once-call (write tag kind word) W s = tt
   once-call stop W s = tt
-  once-call lookState W s = tt
-  once-call lookStats W s = tt
-  once-call lookCounts W s = tt
-  once-call (lookGroups out) W s = tt
-  once-call (lookTable out) W s = tt
-  once-call (lookPanel out) W s = tt
-  once-call (lookTag tag) W s = tt
+  once-call (look l) W s = tt
 
 -- No step of an engine that creation accepted needs a second round, whatever the calls before it.
 pub never-twice : (s : Setup) → creationCheck s ≡ 0 → (cs : List Call) → Each (atEach after moment cs (freshWorker s)) Once

@@ -19,8 +19,9 @@ use Rattle.settings.specs.Settings.{settingFrom, settingIn, settingOk, settings
 use Rattle.tiers.specs.Tiers.{tagSet, putTable, graceUntil, enterGrace, setTier}
 use Rattle.board.specs.Board.{Table, tagAt}
 use Rattle.panel.specs.Panel.{loaded}
-use Rattle.versions.specs.Versions.{tagTaken, takenAt, eachAt, tableTaken, versionTable, isChanged, takesSettings}
-use Rattle.versions.specs.declared.version.Version.{Version}
+use Rattle.heads.specs.Version.{isChanged}
+use Rattle.versions.specs.Versions.{tagTaken, takenAt, eachAt, tableTaken, versionTable, takesSettings}
+use Rattle.heads.specs.declared.version.Version.{Version}
 use Rattle.turns.proofs.TierLaws.{settingsOf, set-kept}
 use Rattle.turns.proofs.TickLaws.{isRated, Rated}
 

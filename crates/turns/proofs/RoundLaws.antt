@@ -19,11 +19,11 @@ use Rattle.slices.specs.Slice.{tier2Tags, sliceTaken, nextIndex}
 use Rattle.rounds.specs.Graces.{expiredAt, runOut}
 use Rattle.rounds.specs.Due.{marked}
 use Rattle.rounds.specs.Added.{settled}
-use Rattle.rounds.specs.Round.{Polling, Rooms, Round, cycleAfter, round}
-use Rattle.rounds.specs.declared.tick.Options.{Options}
-use Rattle.rounds.specs.declared.tick.Cycle.{Cycle}
+use Rattle.rounds.specs.Round.{Polling, Round, cycleAfter, round}
+use Rattle.heads.specs.declared.options.Options.{Options}
+use Rattle.heads.specs.declared.cycle.Cycle.{Cycle}
 use Rattle.rounds.proofs.GraceLaws.{run-none}
-use Rattle.rounds.proofs.NameLaws.{listed-run-out}
+use Rattle.rounds.proofs.GraceLaws.{listed-run-out}
 use Rattle.turns.proofs.TierLaws.{tiers, map-kept, set-kept, tierOf, settingsOf, tags-long, listed-tags, tier2-same}
 use Rattle.turns.proofs.InsideLaws.{Inside, inside-run-out, expired-inside}
 
@@ -51,12 +51,12 @@ settings-marked tags clock [] = refl
 settings-marked tags clock (k ∷ ks) =
     settings-marked (set tags k (withLast (getD tags k freshTag) clock)) clock ks ∙ set-kept settingsOf tags k (withLast (getD tags k freshTag) clock) refl
 
-module _ (less : ℕ → ℕ → Bool) (rooms : Rooms) (o : Options) (P : Polling) (clock : Float) where
+module _ (less : ℕ → ℕ → Bool) (o : Options) (P : Polling) (clock : Float) where
   abbrev T : Table
   T = P .table
 
   abbrev R : Round
-  R = round less rooms o P clock
+  R = round less o P clock
 
   abbrev S : ℕ
   S = slicesOf (o .period) (o .cycle)
@@ -68,7 +68,7 @@ module _ (less : ℕ → ℕ → Bool) (rooms : Rooms) (o : Options) (P : Pollin
   -- the graces that run out are of tags of the table
   ran-out-below : Listed T → Below (length (T .tags)) (R .ranOut)
   unfolding round
-  ran-out-below l = expired-inside (length (T .tags)) T (record { order-inside = order-below T l; graces-inside = l .graced }) (R .boundary) (rooms .wanted) clock
+  ran-out-below l = expired-inside (length (T .tags)) T (record { order-inside = order-below T l; graces-inside = l .graced }) (R .boundary) clock
 
   -- after the graces have run out no tier changes
   round-tiers : tiers (R .after .table .tags) ≡ tiers (T1 .tags)
@@ -90,17 +90,17 @@ module _ (less : ℕ → ℕ → Bool) (rooms : Rooms) (o : Options) (P : Pollin
   round-long l = tags-long (R .after .table .tags) (T1 .tags) round-tiers ∙ run-out-long T (R .ranOut)
 
   -- `tier2` is the tier-2 tags of the table that the round leaves
-  pub tier2-left : tier2Tags less (rooms .sorted) (R .after .table .tags) (R .after .table .order) ≡ R .tier2
+  pub tier2-left : tier2Tags less (R .after .table .tags) (R .after .table .order) ≡ R .tier2
   unfolding round
   tier2-left =
       let tags = marked (T1 .tags) clock (R .due) in
-      tier2-same less (rooms .sorted) (map settled tags) tags (map-kept tierOf settled (λ x. refl) tags) (T1 .order)
+      tier2-same less (map settled tags) tags (map-kept tierOf settled (λ x. refl) tags) (T1 .order)
 
   -- a round keeps the tags of the table inside the directory
   pub inside-round : (n : ℕ) → Inside n T → Inside n (R .after .table)
   unfolding round
   inside-round n i =
-      let j = inside-run-out n T (R .ranOut) i (expired-inside n T i (R .boundary) (rooms .wanted) clock) in
+      let j = inside-run-out n T (R .ranOut) i (expired-inside n T i (R .boundary) clock) in
       record { order-inside = j .order-inside; graces-inside = j .graces-inside }
 
   -- where no grace runs out, tiers, order and graces stay
@@ -123,7 +123,7 @@ module _ (less : ℕ → ℕ → Bool) (rooms : Rooms) (o : Options) (P : Pollin
   pub not-boundary : R .boundary ≡ false → (R .ranOut ≡ []) × (R .after .cycle .index ≡ P .cycle .index)
   unfolding round
   not-boundary e = (
-    ap (λ (b : Bool). expiredAt b (rooms .wanted) (T .tags) (T .graces) clock) e,
+    ap (λ (b : Bool). expiredAt b (T .tags) (T .graces) clock) e,
     ap (λ (b : Bool). cycleAfter (P .cycle) b clock (nextIndex b S (R .tier2) (P .cycle .index)) .index) e,
   )
 

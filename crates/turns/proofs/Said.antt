@@ -10,7 +10,7 @@ use Rattle.words.specs.Value.{valueFrom}
 use Rattle.lent.specs.Lent.{records}
 use Rattle.replies.specs.Worker.{at}
 use Rattle.replies.specs.declared.reply.Reply.{Reply}
-use Rattle.worker.specs.Answers.{step}
+use Rattle.worker.specs.Steps.{step}
 use Rattle.shown.specs.Looks.{listed, leftIn, panelLeft, rowCells}
 use Rattle.shown.specs.declared.head.StateLook.{StateLook}
 use Rattle.shown.specs.declared.head.StatsLook.{StatsLook}
@@ -23,7 +23,7 @@ use Rattle.capi.specs.Calls.{tiered, loaded, wrote, halted, answerOf, Stepped}
 use Rattle.checks.specs.Creation.{Setup}
 use Rattle.capi.specs.Creation.{Created}
 use Rattle.capi.specs.Looks.{stateLook, statsLook, countsLook, groupCells, groupCount, groupCheck, tableCount, tableCheck, panelBytes, panelCount, panelCode, tagLook}
-use Rattle.turns.specs.Calls.{Call, tier, load, steps, write, stop, lookState, lookStats, lookCounts, lookGroups, lookTable, lookPanel, lookTag}
+use Rattle.turns.specs.Calls.{Call, tier, load, steps, write, stop, look, lookState, lookStats, lookCounts, lookGroups, lookTable, lookPanel, lookTag}
 use Rattle.turns.specs.Contracts.{Asked, CreateMet, TierMet, LoadMet, WriteMet, StopMet, StepMet, StateMet, StatsMet, CountsMet, GroupsMet, TableMet, PanelMet, TagMet}
 
 -- ---- calls
@@ -89,10 +89,10 @@ ready-said (load clock list) old = λ κs given mem e0 e1. tt
 ready-said (steps clock wall kind number message list out) old = λ κs given mem lent e0 e1 e2. tt
 ready-said (write tag kind word) old = λ κs mem e0. tt
 ready-said stop old = λ κs mem e0. tt
-ready-said lookState old = λ κs mem e0. tt
-ready-said lookStats old = λ κs mem e0. tt
-ready-said lookCounts old = λ κs mem e0. tt
-ready-said (lookGroups out) old = λ κs mem lent e0 e1. tt
-ready-said (lookTable out) old = λ κs mem lent e0 e1. tt
-ready-said (lookPanel out) old = λ κs mem lent e0 e1. tt
-ready-said (lookTag tag) old = λ κs mem e0. tt
+ready-said (look lookState) old = λ κs mem e0. tt
+ready-said (look lookStats) old = λ κs mem e0. tt
+ready-said (look lookCounts) old = λ κs mem e0. tt
+ready-said (look (lookGroups out)) old = λ κs mem lent e0 e1. tt
+ready-said (look (lookTable out)) old = λ κs mem lent e0 e1. tt
+ready-said (look (lookPanel out)) old = λ κs mem lent e0 e1. tt
+ready-said (look (lookTag tag)) old = λ κs mem e0. tt

@@ -17,9 +17,9 @@ use Rattle.ieee.proofs.Finite.{clock-finite}
 use Rattle.ranks.specs.Ranks.{keysOf}
 use Rattle.tiers.specs.Listed.{Listed, inTier}
 use Rattle.slices.specs.Slice.{isTier2, tier2Tags}
-use Rattle.rounds.specs.Round.{Round, Rooms, Polling, round, pollingOf}
-use Rattle.rounds.specs.declared.tick.Options.{Options}
-use Rattle.rounds.specs.declared.tick.Cycle.{Cycle}
+use Rattle.rounds.specs.Round.{Round, Polling, round, pollingOf}
+use Rattle.heads.specs.declared.options.Options.{Options}
+use Rattle.heads.specs.declared.cycle.Cycle.{Cycle}
 use Rattle.turns.proofs.TierLaws.{tier-same, tags-long, tier2-same, tier2-once}
 use Rattle.turns.proofs.TickLaws.{Rated}
 use Rattle.turns.proofs.RateLaws.{rated-same}
@@ -29,7 +29,8 @@ use Rattle.histories.specs.Respects.{Respects}
 use Rattle.replies.specs.Worker.{Worker, At, Told}
 use Rattle.replies.specs.Losing.{isEmpty}
 use Rattle.cycles.specs.Polling.{roundAt, withWorked}
-use Rattle.worker.specs.Answers.{Answer, clocked, stepped, step}
+use Rattle.step_checks.specs.Awaited.{Answer}
+use Rattle.worker.specs.Steps.{clocked, stepped, step}
 use Rattle.turns.specs.Demand.{ofRound}
 use Rattle.turns.proofs.InsideLaws.{Inside}
 use Rattle.turns.proofs.KeepLaws.{Keeps, index-kept}
@@ -40,20 +41,19 @@ abbrev pub indexOf : Worker → ℕ
 indexOf W = W .head .cycle .index
 
 abbrev pub listedOf : Worker → List ℕ
-listedOf W = tier2Tags (byKeys (W .board .keys)) (W .board .askedRoom) (W .board .table .tags) (W .board .table .order)
+listedOf W = tier2Tags (byKeys (W .board .keys)) (W .board .table .tags) (W .board .table .order)
 
 -- the last boundary, if there was one, is not ahead of the clock
 abbrev pub LastPast : Float → Cycle → Type 0
 LastPast clock x = x .begun ≡ true → T (finite (x .last)) × T (le (x .last) clock)
 
--- What every engine meets that was made with the options o and the names ns: the table is listed and has no other tags than the directory, its lists have room
--- for them, the sort keys are those of the names, rates are 1 ms or more, and the last boundary is not ahead of the clock.
+-- What every engine meets that was made with the options o and the names ns: the table is listed, with room for its tags, and has no other tags than the
+-- directory, the sort keys are those of the names, rates are 1 ms or more, and the last boundary is not ahead of the clock.
 pub record Sound (o : Options) (ns : List (List ℕ)) (W : Worker) : Type 0 where
   pub options-same : W .head .options ≡ o
   pub listed : Listed (W .board .table)
   pub inside : Inside (W .head .count) (W .board .table)
   pub few : W .head .count ≤ length (W .board .table .tags)
-  pub room : length (W .board .table .tags) ≤ W .board .askedRoom
   pub count-same : W .head .count ≡ length ns
   pub keys-same : W .board .keys ≡ keysOf ns
   pub rated : Rated (W .board .table .tags)
@@ -73,10 +73,9 @@ module _ (A B : Worker) (k : Keeps A B) where
   -- the tier-2 tags in slice order stay
   pub listed-kept : listedOf B ≡ listedOf A
   listed-kept =
-      ap (λ (l : List ℕ). tier2Tags (byKeys l) (B .board .askedRoom) (B .board .table .tags) (B .board .table .order)) (k .keys-kept)
-      ∙ ap (λ (n : ℕ). tier2Tags (byKeys (A .board .keys)) n (B .board .table .tags) (B .board .table .order)) (k .room-kept)
-      ∙ ap (λ (l : List ℕ). tier2Tags (byKeys (A .board .keys)) (A .board .askedRoom) (B .board .table .tags) l) (k .order-kept)
-      ∙ tier2-same (byKeys (A .board .keys)) (A .board .askedRoom) (B .board .table .tags) (A .board .table .tags) (k .tiers-kept) (A .board .table .order)
+      ap (λ (l : List ℕ). tier2Tags (byKeys l) (B .board .table .tags) (B .board .table .order)) (k .keys-kept)
+      ∙ ap (λ (l : List ℕ). tier2Tags (byKeys (A .board .keys)) (B .board .table .tags) l) (k .order-kept)
+      ∙ tier2-same (byKeys (A .board .keys)) (B .board .table .tags) (A .board .table .tags) (k .tiers-kept) (A .board .table .order)
 
   -- so does soundness
   pub sound-kept : (o : Options) (ns : List (List ℕ)) → Sound o ns A → Sound o ns B
@@ -89,14 +88,13 @@ module _ (A B : Worker) (k : Keeps A B) where
         listed = record {
           once = λ t. ap (count t) (k .order-kept) ∙ s .listed .once t ∙ ap inTier (sym (tier-same (TB .tags) (TA .tags) (k .tiers-kept) t));
           graced = rw (long, k .graces-kept) (s .listed .graced);
-          enough = rw (long, k .order-room-kept) (s .listed .enough);
+          enough = rw (long, k .room-kept) (s .listed .enough);
         };
         inside = record {
           order-inside = rw (k .count-kept, k .order-kept) (s .inside .order-inside);
           graces-inside = rw (k .count-kept, k .graces-kept) (s .inside .graces-inside);
         };
         few = rw (k .count-kept, long) (s .few);
-        room = rw (k .room-kept, long) (s .room);
         count-same = k .count-kept ∙ s .count-same;
         keys-same = k .keys-kept ∙ s .keys-same;
         rated = k .rated-kept (s .rated);
@@ -111,9 +109,6 @@ module _ (o : Options) (ns : List (List ℕ)) (M : Worker) (at : At) (s : Sound 
   abbrev pub less : ℕ → ℕ → Bool
   less = byKeys (M .board .keys)
 
-  abbrev pub rooms : Rooms
-  rooms = record { sorted = M .board .askedRoom; wanted = M .board .askedRoom; list = M .board .askedRoom }
-
   abbrev pub P : Polling
   P = pollingOf (M .board) (M .head .cycle)
 
@@ -125,45 +120,40 @@ module _ (o : Options) (ns : List (List ℕ)) (M : Worker) (at : At) (s : Sound 
 
   -- the table that the round leaves is listed, and has tags of the directory alone
   pub round-listed : Listed (left .board .table)
-  round-listed = listed-round less rooms (M .head .options) P (at .clock) (s .listed)
+  round-listed = listed-round less (M .head .options) P (at .clock) (s .listed)
 
   pub round-inside : Inside (M .head .count) (left .board .table)
-  round-inside = inside-round less rooms (M .head .options) P (at .clock) (M .head .count) (s .inside)
-
-  -- its lists have room for all tags
-  pub round-room : length (left .board .table .tags) ≤ left .board .askedRoom
-  round-room = rw (round-long less rooms (M .head .options) P (at .clock) (s .listed)) (s .room)
+  round-inside = inside-round less (M .head .options) P (at .clock) (M .head .count) (s .inside)
 
   -- the engine that it leaves is sound, where the clock is that of the round
   sound-round : M .head .clock ≡ at .clock → Sound o ns left
   sound-round now =
-      let long = round-long less rooms (M .head .options) P (at .clock) (s .listed) in
+      let long = round-long less (M .head .options) P (at .clock) (s .listed) in
       let fine : T (finite (at .clock)) = rw now at (s .clock-fine) in
       record {
         options-same = s .options-same;
         listed = round-listed;
         inside = round-inside;
         few = rw long (s .few);
-        room = round-room;
         count-same = s .count-same;
         keys-same = s .keys-same;
-        rated = rated-same (left .board .table .tags) (M .board .table .tags) (round-settings less rooms (M .head .options) P (at .clock)) (s .rated);
+        rated = rated-same (left .board .table .tags) (M .board .table .tags) (round-settings less (M .head .options) P (at .clock)) (s .rated);
         clock-fine = s .clock-fine;
         last-past =
-            last-boundary less rooms (M .head .options) P (at .clock) (LastPast (M .head .clock)) (s .last-past)
+            last-boundary less (M .head .options) P (at .clock) (LastPast (M .head .clock)) (s .last-past)
             (λ i e. (fine, rw now (le-refl-float (at .clock) (finite-number (at .clock) fine)))) (λ i q. q);
       }
 
   -- the tier-2 tags that it leaves are those it went by
   tier2-is : R .tier2 ≡ listedOf left
-  tier2-is = sym (tier2-left less rooms (M .head .options) P (at .clock))
+  tier2-is = sym (tier2-left less (M .head .options) P (at .clock))
 
   -- where no grace runs out the tier-2 tags stay
   same-listed : R .ranOut ≡ [] → listedOf left ≡ listedOf M
   same-listed e =
-      let z = none-ran-out less rooms (M .head .options) P (at .clock) e in
-      ap (λ (l : List ℕ). tier2Tags less (M .board .askedRoom) (left .board .table .tags) l) (z .order-stays)
-      ∙ tier2-same less (M .board .askedRoom) (left .board .table .tags) (M .board .table .tags) (z .tiers-stay) (M .board .table .order)
+      let z = none-ran-out less (M .head .options) P (at .clock) e in
+      ap (λ (l : List ℕ). tier2Tags less (left .board .table .tags) l) (z .order-stays)
+      ∙ tier2-same less (left .board .table .tags) (M .board .table .tags) (z .tiers-stay) (M .board .table .order)
 
 -- nothing in a list
 none-in : (l : List ℕ) → not (isEmpty l) ≡ false → l ≡ []
@@ -194,7 +184,6 @@ module _ (o : Options) (ns : List (List ℕ)) where
         listed = s .listed;
         inside = s .inside;
         few = s .few;
-        room = s .room;
         count-same = s .count-same;
         keys-same = s .keys-same;
         rated = s .rated;
@@ -237,15 +226,15 @@ module _ (o : Options) (ns : List (List ℕ)) where
         go : (b : Bool) → roundAt M at .boundary ≡ b
             → Respects S indexOf listedOf N (cond b (took (not (isEmpty (roundAt M at .ranOut))) (isTier2 (roundAt M at .after .table .tags)) (roundAt M at .slice)) quiet) (T .left)
         go false z =
-            let n = not-boundary (less o ns M at sm) (rooms o ns M at sm) (M .head .options) (P o ns M at sm) (at .clock) z in
+            let n = not-boundary (less o ns M at sm) (M .head .options) (P o ns M at sm) (at .clock) z in
             (index-left ∙ n .1 ∙ index-before, unchanged (n .0))
         go true z =
-            let b = at-boundary (less o ns M at sm) (rooms o ns M at sm) (M .head .options) (P o ns M at sm) (at .clock) z in
+            let b = at-boundary (less o ns M at sm) (M .head .options) (P o ns M at sm) (at .clock) z in
             let tier2 : roundAt M at .tier2 ≡ listedOf (T .left) = tier2-is o ns M at sm ∙ sym last in (
               λ n. unchanged (none-in (roundAt M at .ranOut) n),
               b .0 ∙ rw (slices-same, tier2, index-before),
               index-left ∙ b .1 ∙ rw (slices-same, tier2, index-before),
-              λ t. ap (count t) last ∙ tier2-once (byKeys (X .board .keys)) (X .board .askedRoom) (X .board .table) (round-listed o ns M at sm) (round-room o ns M at sm) t,
+              λ t. ap (count t) last ∙ tier2-once (byKeys (X .board .keys)) (X .board .table) (round-listed o ns M at sm) t,
             )
 
   module _ (W : Worker) (at : At) (a : Answer) (out : ℕ) (s : Sound o ns W) where

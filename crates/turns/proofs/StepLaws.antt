@@ -19,7 +19,8 @@ use Rattle.replies.specs.Reply as reply
 use Rattle.replies.specs.Worker.{Worker, At, Told, tell, phased, goesOn}
 use Rattle.replies.specs.Losing.{isEmpty}
 use Rattle.cycles.specs.Polling.{waiting, reading, roundAt, withWorked, polled, poll, lastly, finished}
-use Rattle.worker.specs.Answers.{Answer, awaited, answers, contents, stepCheck, clocked, stepped, step}
+use Rattle.step_checks.specs.Awaited.{Answer, awaited, answers, contents, stepCheck}
+use Rattle.worker.specs.Steps.{clocked, stepped, step}
 use Rattle.turns.proofs.KeepLaws.{Keeps, keeps-all, keeps-after, Still, still-tell, still-if}
 use Rattle.turns.proofs.StillLaws.{keeps-refl, still-writing, still-waiting, still-reading, still-handled}
 
@@ -45,8 +46,9 @@ module _ (at : At) where
   did-poll W =
       let R = roundAt W at in
       let next = withWorked W at R in
-      let T = cond (isEmpty (R .list)) (reading next at) (tell (phased next Read) (reply.read (length (R .list))) (tagBytes (R .list))) in
-      let s : Still next T = still-if next (isEmpty (R .list)) _ _ (still-reading at next) (still-tell next (phased next Read) _ _ (keeps-all next (phased next Read) refl refl refl refl refl refl refl)) in
+      let asked = next .board .asked in
+      let T = cond (isEmpty asked) (reading next at) (tell (phased next Read) (reply.read (length asked)) (tagBytes asked)) in
+      let s : Still next T = still-if next (isEmpty asked) _ _ (still-reading at next) (still-tell next (phased next Read) _ _ (keeps-all next (phased next Read) refl refl refl refl refl refl)) in
       did-if W (W .head .link .stopping) _ _ (nothing (still-writing at W End)) (oneRound W (keeps-refl W) refl (s .keeps))
 
   -- what follows it works out none

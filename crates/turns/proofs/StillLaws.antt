@@ -1,4 +1,4 @@
--- Every part of a step but the round keeps the tiers, the order and the slice index. `still-X` says it of the definition X of `replies`, `cycles` or `worker`: what X tells leaves an
+-- Every part of a step but the round keeps the tiers, the order and the slice index. `still-X` says it of the definition X of `replies`, `cycles`, `step_answers` or `worker`: what X tells leaves an
 -- engine that keeps all that `Keeps` names, and is no round.
 use mathlib.Core.Path.{_≡_, refl}
 use mathlib.Core.Bool.{Bool, true, false, cond}
@@ -9,13 +9,14 @@ use lib.Dec.{eqb}
 use lib.Ieee.{Float, binary64, round as rounded, le}
 use lib.IntN.{ℤ}
 use lib.ListN.{length, take}
-use Rattle.readings.specs.Stale.{tagStale}
+use Rattle.stale.specs.Stale.{tagStale, staledIn}
 use Rattle.results.specs.Results.{resultCount}
 use Rattle.descriptions.specs.Descriptions.{unwanted, foundIn, foundCount, learnt, learntNone, describing}
 use Rattle.table.specs.declared.tag.Tag.{Tag}
 use Rattle.table.specs.declared.tag.Description.the-variants.{Nothing as NoDescription}
 use Rattle.settings.specs.Settings.{settingsOk}
-use Rattle.versions.specs.Versions.{isReloaded, versionTable}
+use Rattle.heads.specs.Version.{isReloaded}
+use Rattle.versions.specs.Versions.{versionTable}
 use Rattle.queue.specs.Queue.{popped}
 use Rattle.queue.specs.declared.Popped.{Popped}
 use Rattle.queue.specs.declared.Popped.the-variants.{Nothing, Is}
@@ -28,13 +29,15 @@ use Rattle.heads.specs.declared.progress.Phase.{Phase}
 use Rattle.heads.specs.declared.progress.Phase.the-variants.{Begin, Connect, OpenVersion, Version, Read, Describe, Write, ReadBack, Wait, Backoff, OpenFailedTold, OpenMetaTold, ConnectedTold, MetaTold, ValuesTold, InfoTold, RefusedTold, LostTold, OutcomeTold, BackTold, FailedTold, StaleTold, DisconnectedTold, ConnectingTold, Stopped}
 use Rattle.turns.proofs.TierLaws.{places, placeOf, map-kept}
 use Rattle.board.specs.Board.{withRecords}
-use Rattle.readings.specs.Changes.{staledIn, appliedTo}
+use Rattle.readings.specs.Changes.{appliedTo}
 use Rattle.replies.specs.Reply as reply
 use Rattle.replies.specs.declared.reply.Reply.{Reply}
 use Rattle.replies.specs.Worker.{Worker, At, tell, asks, withBoard, phased, linked, tallied}
 use Rattle.replies.specs.Losing.{isEmpty, failing, ended, backingOff, disconnected, staling, down, top}
 use Rattle.cycles.specs.Polling.{elapsed, remaining, polls, waiting, idle, tail, resume, writingOf, writing, checking, reading}
-use Rattle.worker.specs.Answers.{Answer, awaited, either, answers, contents, numberOf, versioned, connected, reconnecting, opened, openVersion, roundVersion, results, descriptions, written, readBack, backApplied, waited, backedOff, connectAnswered, taken, handled}
+use Rattle.step_checks.specs.Awaited.{Answer, awaited, either, answers, contents}
+use Rattle.step_answers.specs.Answers.{numberOf, versioned, connected, reconnecting, opened, openVersion, roundVersion, results, descriptions, written, readBack, backApplied, waited, backedOff, connectAnswered}
+use Rattle.worker.specs.Steps.{taken, handled}
 use Rattle.turns.proofs.RateLaws.{rated-version}
 use Rattle.turns.proofs.KeepLaws.{Keeps, keeps-all, keeps-tags, keeps-records, keeps-after, Still, still-tell, still-if, still-after, apply-places, known-places, version-tiers}
 
@@ -43,23 +46,23 @@ use Rattle.turns.proofs.KeepLaws.{Keeps, keeps-all, keeps-tags, keeps-r
 module _ (W : Worker) where
   -- nothing done
   pub keeps-refl : Keeps W W
-  keeps-refl = keeps-all W W refl refl refl refl refl refl refl
+  keeps-refl = keeps-all W W refl refl refl refl refl refl
 
   pub still-ask : (p : Phase) (r : Reply) → Still W (asks W p r)
-  still-ask p r = still-tell W (phased W p) r [] (keeps-all W (phased W p) refl refl refl refl refl refl refl)
+  still-ask p r = still-tell W (phased W p) r [] (keeps-all W (phased W p) refl refl refl refl refl refl)
 
   pub still-failing : (p : Phase) → Still W (failing W p)
-  still-failing p = still-tell W _ _ _ (keeps-all W _ refl refl refl refl refl refl refl)
+  still-failing p = still-tell W _ _ _ (keeps-all W _ refl refl refl refl refl refl)
 
   pub still-ended : Still W (ended W)
-  still-ended = still-tell W _ _ _ (keeps-all W _ refl refl refl refl refl refl refl)
+  still-ended = still-tell W _ _ _ (keeps-all W _ refl refl refl refl refl refl)
 
   pub still-backing-off : Still W (backingOff W)
-  still-backing-off = still-tell W _ _ _ (keeps-all W _ refl refl refl refl refl refl refl)
+  still-backing-off = still-tell W _ _ _ (keeps-all W _ refl refl refl refl refl refl)
 
   pub still-disconnected : Still W (disconnected W)
   unfolding disconnected
-  still-disconnected = still-if W (isState (W .head .link) Disconnected) _ _ still-backing-off (still-tell W _ _ _ (keeps-all W _ refl refl refl refl refl refl refl))
+  still-disconnected = still-if W (isState (W .head .link) Disconnected) _ _ still-backing-off (still-tell W _ _ _ (keeps-all W _ refl refl refl refl refl refl))
 
   pub still-top : Still W (top W)
   unfolding top
@@ -72,7 +75,7 @@ still-staling W =
     let next = withBoard W (C .board) in
     let k : Keeps W next = keeps-records W (map tagStale (W .board .table .tags)) (map-kept placeOf tagStale (λ x. refl) (W .board .table .tags)) in
     still-if W (isEmpty (C .changes)) _ _ (still-after W next (disconnected next) k (still-disconnected next))
-    (still-tell W (phased next StaleTold) _ _ (keeps-after W next (phased next StaleTold) k (keeps-all next (phased next StaleTold) refl refl refl refl refl refl refl)))
+    (still-tell W (phased next StaleTold) _ _ (keeps-after W next (phased next StaleTold) k (keeps-all next (phased next StaleTold) refl refl refl refl refl refl)))
 
 pub still-down : (W : Worker) → Still W (down W)
 unfolding down
@@ -95,7 +98,7 @@ module _ (at : At) where
   unfolding tail
   still-tail W =
       let next = tallied W (tailStats (W .head .stats) (elapsed W at) (W .head .progress .tick) (at .wall)) in
-      let k : Keeps W next = keeps-all W next refl refl refl refl refl refl refl in
+      let k : Keeps W next = keeps-all W next refl refl refl refl refl refl in
       still-if W (le (elapsed W at) (W .head .progress .tick)) _ _ (still-after W next (idle next at) k (still-idle next)) (still-after W next (polls next) k (still-polls next))
 
   pub still-resume : (W : Worker) (a : After) → Still W (resume W at a)
@@ -107,7 +110,7 @@ module _ (at : At) where
   still-writing-of : (W : Worker) (a : After) (p : Popped) → Still W (writingOf W at a p)
   unfolding writingOf
   still-writing-of W a Nothing = still-resume W a
-  still-writing-of W a (Is w) = still-tell W _ _ _ (keeps-all W _ refl refl refl refl refl refl refl)
+  still-writing-of W a (Is w) = still-tell W _ _ _ (keeps-all W _ refl refl refl refl refl refl)
 
   pub still-writing : (W : Worker) (a : After) → Still W (writing W at a)
   still-writing W a = still-writing-of W a (popped (W .board .queue))
@@ -124,9 +127,9 @@ module _ (at : At) where
       let mid = withBoard W (withRecords (W .board) (map unwanted (W .board .table .tags))) in
       let k : Keeps W next = keeps-after W mid next
       (keeps-records W (map unwanted (W .board .table .tags)) (map-kept placeOf unwanted (λ x. refl) (W .board .table .tags)))
-      (keeps-all mid next refl refl refl refl refl refl refl) in
+      (keeps-all mid next refl refl refl refl refl refl) in
       still-if W (isEmpty (B .asked)) _ _ (still-after W next (checking next at) k (still-checking next))
-      (still-tell W (phased next Describe) _ _ (keeps-after W next (phased next Describe) k (keeps-all next (phased next Describe) refl refl refl refl refl refl refl)))
+      (still-tell W (phased next Describe) _ _ (keeps-after W next (phased next Describe) k (keeps-all next (phased next Describe) refl refl refl refl refl refl)))
 
 -- ---- answers
 
@@ -134,15 +137,15 @@ pub still-connected : (W : Worker) → Still W (connected W)
 unfolding connected
 still-connected W =
     let next = linked W (withAttempt (W .head .link) 0) in
-    still-if W (isState (W .head .link) Connected) _ _ (still-tell W next _ _ (keeps-all W next refl refl refl refl refl refl refl))
-    (still-tell W _ _ _ (keeps-all W _ refl refl refl refl refl refl refl))
+    still-if W (isState (W .head .link) Connected) _ _ (still-tell W next _ _ (keeps-all W next refl refl refl refl refl refl))
+    (still-tell W _ _ _ (keeps-all W _ refl refl refl refl refl refl))
 
 pub still-reconnecting : (W : Worker) → Still W (reconnecting W)
 unfolding reconnecting
 still-reconnecting W =
     let next = tallied W (reconnected (W .head .stats)) in
-    still-if W (isState (W .head .link) Connecting) _ _ (still-after W next (top next) (keeps-all W next refl refl refl refl refl refl refl) (still-top next))
-    (still-tell W _ _ _ (keeps-all W _ refl refl refl refl refl refl refl))
+    still-if W (isState (W .head .link) Connecting) _ _ (still-after W next (top next) (keeps-all W next refl refl refl refl refl refl) (still-top next))
+    (still-tell W _ _ _ (keeps-all W _ refl refl refl refl refl refl))
 
 pub still-opened : (W : Worker) → Still W (opened W)
 unfolding opened
@@ -157,7 +160,7 @@ keeps-versioned W connecting a ok =
     keeps-after W mid (versioned W connecting a)
     (keeps-tags W tags (version-tiers (W .head .link .version) (numberOf a) connecting (a .list) (B .table .words) (B .table .tags))
     (rated-version (W .head .count) (a .list) ok (W .head .link .version) (numberOf a) connecting (B .table .words) (B .table .tags)))
-    (keeps-all mid (versioned W connecting a) refl refl refl refl refl refl refl)
+    (keeps-all mid (versioned W connecting a) refl refl refl refl refl refl)
 
 -- something told from the engine M
 still-told : (W M X : Worker) (r : Reply) (bytes : List ℕ) → Keeps W M → Keeps M X → Still W (tell X r bytes)
@@ -168,7 +171,7 @@ unfolding openVersion
 still-open-version W a ok =
     let next = versioned W true a in
     let k = keeps-versioned W true a ok in
-    still-if W (isReloaded (W .head .link .version) (numberOf a)) _ _ (still-told W next _ _ _ k (keeps-all next _ refl refl refl refl refl refl refl))
+    still-if W (isReloaded (W .head .link .version) (numberOf a)) _ _ (still-told W next _ _ _ k (keeps-all next _ refl refl refl refl refl refl))
     (still-after W next (connected next) k (still-connected next))
 
 pub still-round-version : (W : Worker) (at : At) (a : Answer) → settingsOk (W .head .count) (a .list) ≡ true → Still W (roundVersion W at a)
@@ -176,14 +179,14 @@ unfolding roundVersion
 still-round-version W at a ok =
     let next = versioned W false a in
     let k = keeps-versioned W false a ok in
-    still-if W (isReloaded (W .head .link .version) (numberOf a)) _ _ (still-told W next _ _ _ k (keeps-all next _ refl refl refl refl refl refl refl))
+    still-if W (isReloaded (W .head .link .version) (numberOf a)) _ _ (still-told W next _ _ _ k (keeps-all next _ refl refl refl refl refl refl))
     (still-after W next (writing next at Tail) k (still-writing at next Tail))
 
 -- readings applied
 keeps-applied : (W : Worker) (given : List ℕ) (start : Float) (t : ℤ) (polled : Bool) → Keeps W (withBoard W (appliedTo (W .board) given start t polled .board))
 unfolding appliedTo
 keeps-applied W given start t polled =
-    keeps-records W _ (apply-places (W .board .askedRoom) given start t polled 0 (take (resultCount given) (W .board .asked)) (record { tags = W .board .table .tags; sent = [] }))
+    keeps-records W _ (apply-places given start t polled 0 (take (resultCount given) (W .board .asked)) (record { tags = W .board .table .tags; sent = [] }))
 
 pub still-results : (W : Worker) (at : At) (a : Answer) → Still W (results W at a)
 unfolding results
@@ -193,7 +196,7 @@ still-results W at a =
     let k = keeps-applied W (a .list) (W .head .progress .start) (at .wall) true in
     still-if W (eqb (a .kind) 6) _ _ (still-down W)
     (still-if W (isEmpty (C .changes)) _ _ (still-after W next (reading next at) k (still-reading at next))
-    (still-told W next _ _ _ k (keeps-all next _ refl refl refl refl refl refl refl)))
+    (still-told W next _ _ _ k (keeps-all next _ refl refl refl refl refl refl)))
 
 -- either of two
 cond-known : (b : Bool) (x y : List Tag) (P : List Tag → Type 0) → P x → P y → P (cond b x y)
@@ -209,17 +212,17 @@ still-descriptions W a =
     let next = withBoard W (withRecords B known) in
     let e : places known ≡ places tags = cond-known (eqb (a .kind) 9) _ _ (λ (l : List Tag). places l ≡ places tags)
     (known-places (foundIn (a .list)) 0 (take (foundCount (a .list)) (B .asked)) tags) (known-places (λ (i : ℕ). NoDescription) 0 (B .asked) tags) in
-    still-told W next _ _ _ (keeps-records W known e) (keeps-all next _ refl refl refl refl refl refl refl)
+    still-told W next _ _ _ (keeps-records W known e) (keeps-all next _ refl refl refl refl refl refl)
 
 pub still-written : (W : Worker) (a : Answer) → Still W (written W a)
 unfolding written
 still-written W a =
-    still-if W (eqb (a .kind) 7) _ _ (still-tell W _ _ _ (keeps-all W _ refl refl refl refl refl refl refl))
+    still-if W (eqb (a .kind) 7) _ _ (still-tell W _ _ _ (keeps-all W _ refl refl refl refl refl refl))
     (still-if W (eqb (a .kind) 8) _ _ (still-ask W RefusedTold _) (still-ask W LostTold _))
 
 pub still-read-back : (W : Worker) (a : Answer) → Still W (readBack W a)
 unfolding readBack
-still-read-back W a = still-if W (eqb (a .kind) 6) _ _ (still-ask W LostTold _) (still-tell W _ _ _ (keeps-all W _ refl refl refl refl refl refl refl))
+still-read-back W a = still-if W (eqb (a .kind) 6) _ _ (still-ask W LostTold _) (still-tell W _ _ _ (keeps-all W _ refl refl refl refl refl refl))
 
 pub still-back-applied : (W : Worker) (at : At) → Still W (backApplied W at)
 unfolding backApplied
@@ -228,7 +231,7 @@ still-back-applied W at =
     let next = withBoard W (C .board) in
     let k = keeps-applied W (W .board .back) (at .clock) (at .wall) false in
     still-if W (isEmpty (C .changes)) _ _ (still-after W next (writing next at (W .head .progress .after)) k (still-writing at next (W .head .progress .after)))
-    (still-told W next _ _ _ k (keeps-all next _ refl refl refl refl refl refl refl))
+    (still-told W next _ _ _ k (keeps-all next _ refl refl refl refl refl refl))
 
 pub still-waited : (W : Worker) (at : At) → Still W (waited W at)
 unfolding waited

@@ -23,7 +23,7 @@ use Rattle.table.specs.Tag.{freshTag}
 use Rattle.table.specs.declared.tag.Settings.{Settings}
 use Rattle.table.specs.declared.tag.Tag.{Tag}
 use Rattle.rounds.specs.Tick.{rateOf, leastRate, tickOf, boundaryAt}
-use Rattle.rounds.specs.declared.tick.Cycle.{Cycle}
+use Rattle.heads.specs.declared.cycle.Cycle.{Cycle}
 
 -- 0.001 s, the least cycle but 0 and the least rate
 abbrev pub ms : Float

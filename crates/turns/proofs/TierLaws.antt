@@ -101,27 +101,15 @@ unfolding keep
 keep-same p q h [] = refl
 keep-same p q h (x ∷ l) = rw (h x, keep-same p q h l)
 
--- a list with room for all tags is not cut
-pub none-cut : (T : Table) → Listed T → (room : ℕ) → length (T .tags) ≤ room → take room (keep (isTier2 (T .tags)) (T .order)) ≡ keep (isTier2 (T .tags)) (T .order)
-none-cut T l room h = take-all room (keep (isTier2 (T .tags)) (T .order)) (omega (arith, length-keep (isTier2 (T .tags)) (T .order), few))
-  where
-    at-most : (k n : ℕ) → count k (T .order) ≡ inTier n → count k (T .order) ≤ 1
-    at-most k zero e = omega arith
-    at-most k (suc n) e = omega arith
-
-    few : length (T .order) ≤ length (T .tags)
-    few = length-few (length (T .tags)) (T .order) (order-below T l) (λ k. at-most k (tagAt T k .tier) (l .once k))
-
-module _ (less : ℕ → ℕ → Bool) (room : ℕ) where
+module _ (less : ℕ → ℕ → Bool) where
   -- tables with the same tiers have the same tier-2 tags
-  pub tier2-same : (a b : List Tag) → tiers a ≡ tiers b → (order : List ℕ) → tier2Tags less room a order ≡ tier2Tags less room b order
-  tier2-same a b e order = ap (λ (l : List ℕ). sort less (take room l)) (keep-same (isTier2 a) (isTier2 b) (λ k. ap (λ (n : ℕ). eqb n 2) (tier-same a b e k)) order)
+  pub tier2-same : (a b : List Tag) → tiers a ≡ tiers b → (order : List ℕ) → tier2Tags less a order ≡ tier2Tags less b order
+  tier2-same a b e order = ap (sort less) (keep-same (isTier2 a) (isTier2 b) (λ k. ap (λ (n : ℕ). eqb n 2) (tier-same a b e k)) order)
 
-  -- with room for all of them, the list names each tag in tier 2 once, and no other
-  pub tier2-once : (T : Table) → Listed T → length (T .tags) ≤ room → (t : ℕ) → count t (tier2Tags less room (T .tags) (T .order)) ≡ cond (isTier2 (T .tags) t) 1 0
-  tier2-once T l h t =
-      count-sort less t (take room (keep (isTier2 (T .tags)) (T .order)))
-      ∙ ap (count t) (none-cut T l room h)
+  -- the list names each tag in tier 2 once, and no other
+  pub tier2-once : (T : Table) → Listed T → (t : ℕ) → count t (tier2Tags less (T .tags) (T .order)) ≡ cond (isTier2 (T .tags) t) 1 0
+  tier2-once T l t =
+      count-sort less t (keep (isTier2 (T .tags)) (T .order))
       ∙ go (isTier2 (T .tags) t) refl
     where
       go : (b : Bool) → isTier2 (T .tags) t ≡ b → count t (keep (isTier2 (T .tags)) (T .order)) ≡ cond b 1 0

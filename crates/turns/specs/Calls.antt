@@ -13,7 +13,7 @@ use Rattle.panel.specs.Panel.{panelRoom}
 use Rattle.board.specs.Board.{tagAt}
 use Rattle.replies.specs.Worker.{Worker, Told, at}
 use Rattle.replies.specs.declared.reply.Reply.{Reply}
-use Rattle.worker.specs.Answers.{step}
+use Rattle.worker.specs.Steps.{step}
 use Rattle.shown.specs.Looks.{stateOf, statsOf, countsOf, listed, leftIn, panelLeft, tagOf, noLook, rowCells}
 use Rattle.shown.specs.declared.head.StateLook.{StateLook}
 use Rattle.shown.specs.declared.head.StatsLook.{StatsLook}
@@ -24,20 +24,24 @@ use Rattle.checks.specs.Calls.{noTag, tierCheck, loadCheck, writeCheck}
 use Rattle.capi.specs.Calls.{tiered, loaded, wrote, halted, answerOf}
 use Rattle.capi.specs.Looks.{groupCells, groupCount, tableCount, panelBytes, panelCount}
 
--- A call of an entry point, with its arguments but the engine: numbers, and the bytes of each list that it is lent. `out` is a list that it may write.
+-- A look, with its arguments but the engine. `out` is a list that it may write.
+pub data Look : Type 0 where
+  lookState : Look
+  lookStats : Look
+  lookCounts : Look
+  lookGroups : (out : List ℕ) → Look
+  lookTable : (out : List ℕ) → Look
+  lookPanel : (out : List ℕ) → Look
+  lookTag : (tag : ℕ) → Look
+
+-- A call of an entry point, with its arguments but the engine: numbers, and the bytes of each list that it is lent. `out` is a list that it may write. A look is one case, so that what holds of every look is said once.
 pub data Call : Type 0 where
   tier : (clock : Float) (tag to : ℕ) → Call
   load : (clock : Float) (list : List ℕ) → Call
   steps : (clock : Float) (wall : ℤ) (kind number message : ℕ) (list out : List ℕ) → Call
   write : (tag kind word : ℕ) → Call
   stop : Call
-  lookState : Call
-  lookStats : Call
-  lookCounts : Call
-  lookGroups : (out : List ℕ) → Call
-  lookTable : (out : List ℕ) → Call
-  lookPanel : (out : List ℕ) → Call
-  lookTag : (tag : ℕ) → Call
+  look : Look → Call
 
 -- What a call answers: 0 or the number of a refusal; the reply of a step; what a look gives. `left` is what it leaves in the list that it may write.
 pub data Answer : Type 0 where
@@ -76,13 +80,13 @@ answer (steps clock wall kind number message list out) W =
     told (T .reply) (wroteAll out (T .bytes))
 answer (write tag kind word) W = numberIs (writeCheck W tag (valueFrom kind word))
 answer stop W = numberIs 0
-answer lookState W = stateIs (stateOf (W .head .link))
-answer lookStats W = statsAre (statsOf (W .head .stats))
-answer lookCounts W = countsAre (countsOf (W .board))
-answer (lookGroups out) W = groupsFound W out (placesCheck (length out / 40) 16)
-answer (lookTable out) W = tableFound W out (placesCheck (length out / 16) maxNames)
-answer (lookPanel out) W = panelFound W out (placesCheck (length out) (panelRoom maxNames))
-answer (lookTag tag) W = tagIs (cond (noTag W tag) (noLook 23) (tagOf (tagAt (W .board .table) tag)))
+answer (look lookState) W = stateIs (stateOf (W .head .link))
+answer (look lookStats) W = statsAre (statsOf (W .head .stats))
+answer (look lookCounts) W = countsAre (countsOf (W .board))
+answer (look (lookGroups out)) W = groupsFound W out (placesCheck (length out / 40) 16)
+answer (look (lookTable out)) W = tableFound W out (placesCheck (length out / 16) maxNames)
+answer (look (lookPanel out)) W = panelFound W out (placesCheck (length out) (panelRoom maxNames))
+answer (look (lookTag tag)) W = tagIs (cond (noTag W tag) (noLook 23) (tagOf (tagAt (W .board .table) tag)))
 
 -- what a call leaves whose checks came to n; a refusal changes nothing
 abbrev pub accepted : ℕ → Worker → Worker → Worker
@@ -95,10 +99,4 @@ after (load clock list) W = accepted (loadCheck W clock list) (loaded W clock li
 after (steps clock wall kind number message list out) W = toldBy clock wall kind number message list out W .left
 after (write tag kind word) W = accepted (writeCheck W tag (valueFrom kind word)) (wrote W tag (valueFrom kind word)) W
 after stop W = halted W
-after lookState W = W
-after lookStats W = W
-after lookCounts W = W
-after (lookGroups out) W = W
-after (lookTable out) W = W
-after (lookPanel out) W = W
-after (lookTag tag) W = W
+after (look l) W = W

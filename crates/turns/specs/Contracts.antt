@@ -28,7 +28,7 @@ use Rattle.capi.proofs.looks.wz_group_stats.Reads as groups-contract
 use Rattle.capi.proofs.looks.wz_table.Reads as table-contract
 use Rattle.capi.proofs.looks.wz_panel.Reads as panel-contract
 use Rattle.capi.proofs.looks.wz_tag.Reads as tag-contract
-use Rattle.turns.specs.Calls.{Call, tier, load, steps, write, stop, lookState, lookStats, lookCounts, lookGroups, lookTable, lookPanel, lookTag, Answer, numberIs, told, stateIs, statsAre, countsAre, listIs, tagIs}
+use Rattle.turns.specs.Calls.{Call, tier, load, steps, write, stop, look, lookState, lookStats, lookCounts, lookGroups, lookTable, lookPanel, lookTag, Answer, numberIs, told, stateIs, statsAre, countsAre, listIs, tagIs}
 
 -- ---- an entry point was called and came back with r
 
@@ -159,13 +159,13 @@ Asked (load clock list) old = (κs : Lfts 2) (given mem : RefT (List ℕ)) → g
 Asked (steps clock wall kind number message list out) old = (κs : Lfts 3) (given mem lent : RefT (List ℕ)) → given .now ≡ list → mem .now ≡ old → lent .now ≡ out → step-contract.Asked κs (mem, (clock, (wall, (kind, (number, (message, (given, (lent, tt))))))))
 Asked (write tag kind word) old = (κs : Lfts 1) (mem : RefT (List ℕ)) → mem .now ≡ old → write-contract.Asked κs (mem, (tag, (kind, (word, tt))))
 Asked stop old = (κs : Lfts 1) (mem : RefT (List ℕ)) → mem .now ≡ old → stop-contract.Asked κs (mem, tt)
-Asked lookState old = (κs : Lfts 1) (mem : RefT (List ℕ)) → mem .now ≡ old → state-contract.Asked κs (mem, tt)
-Asked lookStats old = (κs : Lfts 1) (mem : RefT (List ℕ)) → mem .now ≡ old → stats-contract.Asked κs (mem, tt)
-Asked lookCounts old = (κs : Lfts 1) (mem : RefT (List ℕ)) → mem .now ≡ old → counts-contract.Asked κs (mem, tt)
-Asked (lookGroups out) old = (κs : Lfts 2) (mem lent : RefT (List ℕ)) → mem .now ≡ old → lent .now ≡ out → groups-contract.Asked κs (mem, (lent, tt))
-Asked (lookTable out) old = (κs : Lfts 2) (mem lent : RefT (List ℕ)) → mem .now ≡ old → lent .now ≡ out → table-contract.Asked κs (mem, (lent, tt))
-Asked (lookPanel out) old = (κs : Lfts 2) (mem lent : RefT (List ℕ)) → mem .now ≡ old → lent .now ≡ out → panel-contract.Asked κs (mem, (lent, tt))
-Asked (lookTag tag) old = (κs : Lfts 1) (mem : RefT (List ℕ)) → mem .now ≡ old → tag-contract.Asked κs (mem, (tag, tt))
+Asked (look lookState) old = (κs : Lfts 1) (mem : RefT (List ℕ)) → mem .now ≡ old → state-contract.Asked κs (mem, tt)
+Asked (look lookStats) old = (κs : Lfts 1) (mem : RefT (List ℕ)) → mem .now ≡ old → stats-contract.Asked κs (mem, tt)
+Asked (look lookCounts) old = (κs : Lfts 1) (mem : RefT (List ℕ)) → mem .now ≡ old → counts-contract.Asked κs (mem, tt)
+Asked (look (lookGroups out)) old = (κs : Lfts 2) (mem lent : RefT (List ℕ)) → mem .now ≡ old → lent .now ≡ out → groups-contract.Asked κs (mem, (lent, tt))
+Asked (look (lookTable out)) old = (κs : Lfts 2) (mem lent : RefT (List ℕ)) → mem .now ≡ old → lent .now ≡ out → table-contract.Asked κs (mem, (lent, tt))
+Asked (look (lookPanel out)) old = (κs : Lfts 2) (mem lent : RefT (List ℕ)) → mem .now ≡ old → lent .now ≡ out → panel-contract.Asked κs (mem, (lent, tt))
+Asked (look (lookTag tag)) old = (κs : Lfts 1) (mem : RefT (List ℕ)) → mem .now ≡ old → tag-contract.Asked κs (mem, (tag, tt))
 
 -- The call c on the memory `old` answered a and left the memory `new`. A look is lent the memory to read, so that it stays as it is.
 unfoldable pub Learnt : Call → List ℕ → Answer → List ℕ → Type 0
@@ -175,10 +175,10 @@ Learnt (steps clock wall kind number message list out) old a new =
     (r : Reply) × (out' : List ℕ) × (a ≡ told r out') × StepMet old new clock wall kind number message list out r out'
 Learnt (write tag kind word) old a new = (r : ℕ) × (a ≡ numberIs r) × WriteMet old new tag kind word r
 Learnt stop old a new = (r : ℕ) × (a ≡ numberIs r) × StopMet old new r
-Learnt lookState old a new = (r : StateLook) × (a ≡ stateIs r) × (new ≡ old) × StateMet old r
-Learnt lookStats old a new = (r : StatsLook) × (a ≡ statsAre r) × (new ≡ old) × StatsMet old r
-Learnt lookCounts old a new = (r : CountsLook) × (a ≡ countsAre r) × (new ≡ old) × CountsMet old r
-Learnt (lookGroups out) old a new = (r : ListLook) × (out' : List ℕ) × (a ≡ listIs r out') × (new ≡ old) × GroupsMet old out r out'
-Learnt (lookTable out) old a new = (r : ListLook) × (out' : List ℕ) × (a ≡ listIs r out') × (new ≡ old) × TableMet old out r out'
-Learnt (lookPanel out) old a new = (r : ListLook) × (out' : List ℕ) × (a ≡ listIs r out') × (new ≡ old) × PanelMet old out r out'
-Learnt (lookTag tag) old a new = (r : TagLook) × (a ≡ tagIs r) × (new ≡ old) × TagMet old tag r
+Learnt (look lookState) old a new = (r : StateLook) × (a ≡ stateIs r) × (new ≡ old) × StateMet old r
+Learnt (look lookStats) old a new = (r : StatsLook) × (a ≡ statsAre r) × (new ≡ old) × StatsMet old r
+Learnt (look lookCounts) old a new = (r : CountsLook) × (a ≡ countsAre r) × (new ≡ old) × CountsMet old r
+Learnt (look (lookGroups out)) old a new = (r : ListLook) × (out' : List ℕ) × (a ≡ listIs r out') × (new ≡ old) × GroupsMet old out r out'
+Learnt (look (lookTable out)) old a new = (r : ListLook) × (out' : List ℕ) × (a ≡ listIs r out') × (new ≡ old) × TableMet old out r out'
+Learnt (look (lookPanel out)) old a new = (r : ListLook) × (out' : List ℕ) × (a ≡ listIs r out') × (new ≡ old) × PanelMet old out r out'
+Learnt (look (lookTag tag)) old a new = (r : TagLook) × (a ≡ tagIs r) × (new ≡ old) × TagMet old tag r

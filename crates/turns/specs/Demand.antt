@@ -24,7 +24,7 @@ use Rattle.capi.specs.Memory.{workerIn}
 use Rattle.checks.specs.Calls.{tierCheck, loadCheck}
 use Rattle.checks.specs.Creation.{Setup}
 use Rattle.capi.specs.Creation.{freshWorker}
-use Rattle.turns.specs.Calls.{Call, tier, load, steps, write, stop, lookState, lookStats, lookCounts, lookGroups, lookTable, lookPanel, lookTag, Answer, toldBy, answer, after}
+use Rattle.turns.specs.Calls.{Call, tier, load, steps, write, stop, look, Answer, toldBy, answer, after}
 use Rattle.turns.specs.Contracts.{CreateMet, Asked, Learnt}
 
 -- ---- the words of the demand
@@ -36,13 +36,7 @@ roundIn (load clock list) W = none
 roundIn (steps clock wall kind number message list out) W = toldBy clock wall kind number message list out W .round
 roundIn (write tag kind word) W = none
 roundIn stop W = none
-roundIn lookState W = none
-roundIn lookStats W = none
-roundIn lookCounts W = none
-roundIn (lookGroups out) W = none
-roundIn (lookTable out) W = none
-roundIn (lookPanel out) W = none
-roundIn (lookTag tag) W = none
+roundIn (look l) W = none
 
 -- A tier-2 tag as the slice is taken: one that is in tier 2 in the table that the round leaves. Graces run out before the slice is taken, a tag in grace
 -- is in tier 2, and nothing in the round changes a tier after that.
@@ -65,13 +59,7 @@ event (load clock list) W = ofAnswer (loadCheck W clock list)
 event (steps clock wall kind number message list out) W = ofRound (roundIn (steps clock wall kind number message list out) W)
 event (write tag kind word) W = quiet
 event stop W = quiet
-event lookState W = quiet
-event lookStats W = quiet
-event lookCounts W = quiet
-event (lookGroups out) W = quiet
-event (lookTable out) W = quiet
-event (lookPanel out) W = quiet
-event (lookTag tag) W = quiet
+event (look l) W = quiet
 
 -- Rule 4: S, of creation's options
 abbrev pub slicesIn : Setup → ℕ

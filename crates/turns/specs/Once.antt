@@ -4,9 +4,10 @@ use mathlib.Core.Bool.{cond}
 use lib.ListN.{length}
 use Rattle.replies.specs.Worker.{Worker, At, Told, at, goesOn}
 use Rattle.cycles.specs.Polling.{poll}
-use Rattle.worker.specs.Answers.{Answer, stepCheck, handled, clocked, stepped}
+use Rattle.step_checks.specs.Awaited.{Answer, stepCheck}
+use Rattle.worker.specs.Steps.{handled, clocked, stepped}
 use Rattle.capi.specs.Calls.{answerOf}
-use Rattle.turns.specs.Calls.{Call, tier, load, steps, write, stop, lookState, lookStats, lookCounts, lookGroups, lookTable, lookPanel, lookTag}
+use Rattle.turns.specs.Calls.{Call, tier, load, steps, write, stop, look}
 use Rattle.turns.specs.Demand.{Moment}
 
 -- what the answer comes to
@@ -32,10 +33,4 @@ Once m = go (m .call)
         stepCheck (m .engine) (at clock wall) (answerOf kind number message list) (length out) ≡ 0 → OnceAt (m .engine) (at clock wall) (answerOf kind number message list)
     go (write tag kind word) = Unit {0}
     go stop = Unit {0}
-    go lookState = Unit {0}
-    go lookStats = Unit {0}
-    go lookCounts = Unit {0}
-    go (lookGroups out) = Unit {0}
-    go (lookTable out) = Unit {0}
-    go (lookPanel out) = Unit {0}
-    go (lookTag tag) = Unit {0}
+    go (look l) = Unit {0}

@@ -1,19 +1,19 @@
--- A step comes to the same with more room. `alike-X` says it of the definition X of `replies`, `cycles` or `worker`: X tells the same, and leaves the same engine but for the rooms.
+-- A step comes to the same with more room. `alike-X` says it of the definition X of `replies`, `cycles`, `step_answers` or `worker`: X tells the same, and leaves the same engine but for the rooms.
 use mathlib.Core.Path.{_≡_, refl, ap, _∙_}
 use mathlib.Core.Bool.{Bool, true, false, cond}
-use mathlib.Core.List.{List, [], _∷_, _++_, map}
-use Prim.Native.Nat.{ℕ, suc, _+_, _*_, _%_, _≤_}
+use mathlib.Core.List.{List, [], _∷_, map}
+use Prim.Native.Nat.{ℕ, suc, _+_, _*_, _≤_}
 use native.Mathlib.Omega.{arith}
-use lib.Dec.{eqb, ltb}
+use lib.Dec.{eqb}
 use lib.Ieee.{Float, binary64, round as rounded, le}
 use lib.IntN.{ℤ}
-use lib.ListN.{length, getD, set, take, length-map, length-take, length-drop, length-append}
+use lib.ListN.{length, getD, set, take, length-map, length-take, length-drop}
 use Rattle.lists.specs.Keep.{keep}
 use Rattle.lists.specs.Sort.{byKeys}
 use Rattle.lent.specs.Changes.{changeCells, changeSize}
 use Rattle.lent.specs.Lent.{cellBytes, tagBytes, records}
 use Rattle.lent.proofs.LentLaws.{length-bytes, length-tags, length-records}
-use Rattle.tags.specs.Lists.{pushed, member}
+use Rattle.tags.specs.Lists.{member}
 use Rattle.table.specs.Tag.{freshTag}
 use Rattle.table.specs.Table.{withDescription, byRank}
 use Rattle.table.specs.declared.tag.Description.{Description}
@@ -22,21 +22,23 @@ use Rattle.table.specs.declared.tag.Tag.{Tag}
 use Rattle.values.specs.declared.entry.Entry.{Entry}
 use Rattle.values.specs.declared.entry.TagResult.{TagResult}
 use Rattle.tiers.specs.Listed.{Listed}
-use Rattle.apply.specs.Apply.{tagRead, tagApplied, appliedAt, sentAt}
+use Rattle.apply.specs.Apply.{tagRead, tagApplied, appliedAt}
 use Rattle.results.specs.Results.{resultCount, resultIn}
 use Rattle.readings.specs.Listed.{Applying, applyNext, applyFrom, applyAll}
-use Rattle.readings.specs.Stale.{tagStale, isStaled}
+use Rattle.stale.specs.Stale.{tagStale, isStaled, staledIn}
 use Rattle.descriptions.specs.Descriptions.{isAsked, askedTags, unwanted, knownFrom, foundIn, foundCount, learnt, learntNone, describing}
 use Rattle.settings.specs.Settings.{settingsOk}
-use Rattle.versions.specs.Versions.{tagTaken, takenAt, eachAt, tableTaken, versionTable, isChanged, isReloaded, takesSettings}
-use Rattle.versions.specs.declared.version.Version.{Version}
+use Rattle.heads.specs.Version.{isChanged, isReloaded}
+use Rattle.versions.specs.Versions.{tagTaken, takenAt, eachAt, tableTaken, versionTable, takesSettings}
+use Rattle.heads.specs.declared.version.Version.{Version}
 use Rattle.queue.specs.Queue.{popped, rest}
 use Rattle.writes.specs.Failing.{queuedTags}
 use Rattle.writes.specs.ReadBack.{readBackTags, keptBack}
 use Rattle.queue.specs.declared.Write.{Write}
 use Rattle.queue.specs.declared.Popped.{Popped}
 use Rattle.queue.specs.declared.Popped.the-variants.{Nothing, Is}
-use Rattle.rounds.specs.Round.{Round, pollingOf}
+use Rattle.rounds.specs.Round.{Round, Polling, pollingOf}
+use Rattle.heads.specs.declared.options.Options.{Options}
 use Rattle.heads.specs.Link.{isState, withAttempt}
 use Rattle.heads.specs.Stats.{readStats, tailStats, reconnected}
 use Rattle.heads.specs.declared.link.State.the-variants.{Disconnected, Connecting, Connected, Stopped as AtStop}
@@ -45,18 +47,20 @@ use Rattle.heads.specs.declared.progress.After.the-variants.{Tail, Idle, End}
 use Rattle.heads.specs.declared.progress.Phase.{Phase}
 use Rattle.heads.specs.declared.progress.Phase.the-variants.{Begin, Connect, OpenVersion, Version as AskVersion, Read, Describe, Write as AskWrite, ReadBack, Wait, Backoff, OpenFailedTold, OpenMetaTold, ConnectedTold, MetaTold, ValuesTold, InfoTold, RefusedTold, LostTold, OutcomeTold, BackTold, FailedTold, StaleTold, DisconnectedTold, ConnectingTold, Stopped}
 use Rattle.board.specs.Board.{Board, withRecords, withQueue, withAsked}
-use Rattle.readings.specs.Changes.{staledIn, appliedTo}
+use Rattle.readings.specs.Changes.{appliedTo}
 use Rattle.replies.specs.Reply as reply
 use Rattle.replies.specs.declared.reply.Reply.{Reply}
 use Rattle.replies.specs.Worker.{Worker, At, Told, tell, asks, withBoard, phased, linked, stated, tallied, goesOn}
 use Rattle.replies.specs.Losing.{isEmpty, withoutWrites, failing, ended, backingOff, disconnected, staling, down, top}
 use Rattle.cycles.specs.Polling.{elapsed, remaining, polls, waiting, idle, tail, resume, writingOf, writing, checking, reading, roundAt, withWorked, worked, polled, poll, lastly, finished}
-use Rattle.worker.specs.Answers.{Answer, awaited, either, answers, contents, numberOf, versioned, connected, reconnecting, opened, openVersion, roundVersion, results, descriptions, written, readBack, backApplied, waited, backedOff, connectAnswered, taken, handled}
+use Rattle.step_checks.specs.Awaited.{Answer, awaited, either, answers, contents}
+use Rattle.step_answers.specs.Answers.{numberOf, versioned, connected, reconnecting, opened, openVersion, roundVersion, results, descriptions, written, readBack, backApplied, waited, backedOff, connectAnswered}
+use Rattle.worker.specs.Steps.{taken, handled}
 use Rattle.checks.specs.Calls.{maxWrites}
 use Rattle.uncut.specs.Uncut.{boardRoomed, roomed}
 use Rattle.turns.proofs.TierLaws.{settingsOf, map-kept, set-kept}
-use Rattle.uncut.proofs.FitLaws.{cut-same, pushed-same, ranks-few, Numbered, numbered-same, numbered-version, isGraced, fit-tags, Fits}
-use Rattle.uncut.proofs.RoomLaws.{pollingRoomed, tick-same, boundary-same, list-same, after-same, round-fits, groups-fit, list-few}
+use Rattle.uncut.proofs.FitLaws.{cut-same, ranks-few, Numbered, numbered-same, numbered-version, isGraced, fit-tags, Fits}
+use Rattle.uncut.proofs.RoomLaws.{pollingRoomed, tick-same, boundary-same, list-same, after-same, round-fits, groups-fit, list-few, room-enough}
 
 -- ---- what readings, descriptions and versions keep of each tag
 
@@ -71,10 +75,10 @@ module _ {A : Type 0} (g : Tag → A) where
     unfolding appliedAt
     applied-kept tags k r = cond-kept (eqb (getD tags k freshTag .tier) 0) tags _ tags refl (set-kept g tags k (tagApplied (getD tags k freshTag) r start t polled) (h (getD tags k freshTag) _))
 
-    apply-kept : (n : ℕ) (given : List ℕ) (i : ℕ) (ks : List ℕ) (S : Applying) → map g (applyFrom n given start t polled i ks S .tags) ≡ map g (S .tags)
+    apply-kept : (given : List ℕ) (i : ℕ) (ks : List ℕ) (S : Applying) → map g (applyFrom given start t polled i ks S .tags) ≡ map g (S .tags)
     unfolding applyFrom applyNext
-    apply-kept n given i [] S = refl
-    apply-kept n given i (k ∷ ks) S = apply-kept n given (suc i) ks (applyNext n S k (resultIn given i) start t polled) ∙ applied-kept (S .tags) k (resultIn given i)
+    apply-kept given i [] S = refl
+    apply-kept given i (k ∷ ks) S = apply-kept given (suc i) ks (applyNext S k (resultIn given i) start t polled) ∙ applied-kept (S .tags) k (resultIn given i)
 
   known-kept : ((x : Tag) (d : Description) → g (withDescription x d) ≡ g x) → (f : ℕ → Description) (i : ℕ) (ks : List ℕ) (tags : List Tag) → map g (knownFrom f i ks tags) ≡ map g tags
   unfolding knownFrom
@@ -93,31 +97,6 @@ version-graces old new connecting settings words tags =
     cond-kept isGraced (takesSettings (isChanged old new) connecting) (tableTaken (isChanged old new) settings words tags) tags tags
     (each-kept isGraced (takenAt (isChanged old new) settings words) (λ i x. refl) 0 tags) refl
 
--- ---- readings sent
-
--- one tag more, or not
-sent-grows : (n : ℕ) (b : Bool) (l : List ℕ) (k : ℕ) → length (cond b (pushed n l k) l) ≤ suc (length l)
-sent-grows n false l k = omega arith
-sent-grows n true l k = go (ltb (length l) n)
-  where
-    go : (c : Bool) → length (cond c (l ++ (k ∷ [])) l) ≤ suc (length l)
-    go true = omega (arith, length-append l (k ∷ []))
-    go false = omega arith
-
--- with room for all tags of the list, it does not matter how much
-apply-same : (n m : ℕ) (given : List ℕ) (start : Float) (t : ℤ) (polled : Bool) (i : ℕ) (ks : List ℕ) (S : Applying) → length (S .sent) + length ks ≤ n → length (S .sent) + length ks ≤ m
-    → applyFrom n given start t polled i ks S ≡ applyFrom m given start t polled i ks S
-unfolding applyFrom applyNext
-apply-same n m given start t polled i [] S p q = refl
-apply-same n m given start t polled i (k ∷ ks) S p q =
-    let r = resultIn given i in
-    let b = sentAt (S .tags) k r t polled in
-    let next = applyNext m S k r start t polled in
-    let few = sent-grows m b (S .sent) (k % 65536) in
-    ap (λ (sent : List ℕ). applyFrom n given start t polled (suc i) ks (record { tags = appliedAt (S .tags) k r start t polled; sent = cond b sent (S .sent) }))
-    (pushed-same n m (S .sent) (k % 65536) (omega arith) (omega arith))
-    ∙ apply-same n m given start t polled (suc i) ks next (omega (arith, few)) (omega (arith, few))
-
 -- ---- a board with one part replaced
 
 module _ (rows : ℕ) (B : Board) (f : Fits rows B) where
@@ -128,14 +107,14 @@ module _ (rows : ℕ) (B : Board) (f : Fits rows B) where
     named = f .named;
     asked-few = f .asked-few;
     queue-few = f .queue-few;
-    rooms = f .rooms;
+    some = f .some;
   }
 
   pub fits-queue : (q : List Write) → length q ≤ maxWrites → Fits rows (withQueue B q)
-  fits-queue q h = record { table-fits = f .table-fits; groups-fit = f .groups-fit; named = f .named; asked-few = f .asked-few; queue-few = h; rooms = f .rooms }
+  fits-queue q h = record { table-fits = f .table-fits; groups-fit = f .groups-fit; named = f .named; asked-few = f .asked-few; queue-few = h; some = f .some }
 
-  fits-asked : (l : List ℕ) → length l ≤ B .askedRoom → Fits rows (withAsked B l)
-  fits-asked l h = record { table-fits = f .table-fits; groups-fit = f .groups-fit; named = f .named; asked-few = h; queue-few = f .queue-few; rooms = f .rooms }
+  fits-asked : (l : List ℕ) → length l ≤ rows → Fits rows (withAsked B l)
+  fits-asked l h = record { table-fits = f .table-fits; groups-fit = f .groups-fit; named = f .named; asked-few = h; queue-few = f .queue-few; some = f .some }
 
   abbrev tags : List Tag
   tags = B .table .tags
@@ -145,27 +124,17 @@ module _ (rows : ℕ) (B : Board) (f : Fits rows B) where
   changes-few l ks h = omega (arith, length-bytes (records (changeCells l) ks), length-records (changeCells l) 9 (λ k. refl) ks)
 
   -- a list of tags: two bytes each
-  tags-few : (ks : List ℕ) → length ks ≤ B .askedRoom → length (tagBytes ks) ≤ changeSize * rows
-  tags-few ks h = omega (arith, length-tags ks, f .rooms .tags-fit)
+  tags-few : (ks : List ℕ) → length ks ≤ rows → length (tagBytes ks) ≤ changeSize * rows
+  tags-few ks h = omega (arith, length-tags ks)
 
-  -- tags by rank: all fit, and it does not matter how much room there is
-  module _ (p : ℕ → Bool) where
-    abbrev ranked : List ℕ
-    ranked = keep p (byRank tags)
-
-    ranked-few : length (take (B .askedRoom) ranked) ≤ rows
-    ranked-few = omega (arith, length-take (B .askedRoom) ranked, ranks-few p tags, f .table-fits .long)
-
-    ranked-same : (n : ℕ) → take (B .askedRoom + n) ranked ≡ take (B .askedRoom) ranked
-    ranked-same n =
-        let few = ranks-few p tags in
-        let long = f .table-fits .long in
-        cut-same (B .askedRoom + n) (B .askedRoom) ranked (omega (arith, few, long, f .rooms .tags-fit)) (omega (arith, few, long, f .rooms .tags-fit))
+  -- tags by rank
+  ranked-few : (p : ℕ → Bool) → length (keep p (byRank tags)) ≤ rows
+  ranked-few p = omega (arith, ranks-few p tags, f .table-fits .long)
 
   -- Rule 7: stale marks
   stale-same : (n : ℕ) → staledIn (boardRoomed n B) ≡ record { board = boardRoomed n (staledIn B .board); changes = staledIn B .changes }
   unfolding staledIn
-  stale-same n = rw (ranked-same (λ (k : ℕ). isStaled (getD tags k freshTag)) n)
+  stale-same n = refl
 
   stale-few : length (staledIn B .changes) ≤ rows
   unfolding staledIn
@@ -180,17 +149,11 @@ module _ (rows : ℕ) (B : Board) (f : Fits rows B) where
   -- Rule 7: readings
   module _ (given : List ℕ) (start : Float) (t : ℤ) (polled : Bool) where
     abbrev applied : Applying
-    applied = applyAll (B .askedRoom) given start t polled (B .asked) tags
-
-    all-same : (n : ℕ) → applyAll (B .askedRoom + n) given start t polled (B .asked) tags ≡ applied
-    all-same n =
-        let few = length-take (resultCount given) (B .asked) in
-        apply-same (B .askedRoom + n) (B .askedRoom) given start t polled 0 (take (resultCount given) (B .asked)) (record { tags = tags; sent = [] })
-        (omega (arith, few, f .asked-few)) (omega (arith, few, f .asked-few))
+    applied = applyAll given start t polled (B .asked) tags
 
     applied-same : (n : ℕ) → appliedTo (boardRoomed n B) given start t polled ≡ record { board = boardRoomed n (appliedTo B given start t polled .board); changes = appliedTo B given start t polled .changes }
     unfolding appliedTo
-    applied-same n = rw (all-same n, ranked-same (λ (k : ℕ). member k (applied .sent)) n)
+    applied-same n = refl
 
     applied-few : length (appliedTo B given start t polled .changes) ≤ rows
     unfolding appliedTo
@@ -201,16 +164,12 @@ module _ (rows : ℕ) (B : Board) (f : Fits rows B) where
     applied-fits =
         let ks = take (resultCount given) (B .asked) in
         let S : Applying = record { tags = tags; sent = [] } in
-        fits-records (applied .tags) (apply-kept isGraced start t polled (λ x e. refl) (B .askedRoom) given 0 ks S)
-        (numbered-same (applied .tags) tags (apply-kept settingsOf start t polled (λ x e. refl) (B .askedRoom) given 0 ks S) (f .table-fits .numbered))
-
-  -- Rule 8: the descriptions that are asked for
-  asked-same : (n : ℕ) → take (B .askedRoom + n) (askedTags tags) ≡ take (B .askedRoom) (askedTags tags)
-  asked-same n = ranked-same (λ (k : ℕ). isAsked (getD tags k freshTag)) n
+        fits-records (applied .tags) (apply-kept isGraced start t polled (λ x e. refl) given 0 ks S)
+        (numbered-same (applied .tags) tags (apply-kept settingsOf start t polled (λ x e. refl) given 0 ks S) (f .table-fits .numbered))
 
   -- Rule 8: the tags of the writes that wait: no more bytes than one change has
   queued-few : length (tagBytes (queuedTags B)) ≤ changeSize * rows
-  queued-few = omega (arith, length-tags (queuedTags B), length-map (B .queue) (λ (w : Write). w .tag), f .queue-few, f .rooms .some)
+  queued-few = omega (arith, length-tags (queuedTags B), length-map (B .queue) (λ (w : Write). w .tag), f .queue-few, f .some)
 
 describing-fits : (rows : ℕ) (B : Board) → Fits rows B → Fits rows (describing B)
 describing-fits rows B f =
@@ -218,7 +177,7 @@ describing-fits rows B f =
     let mid = withRecords B (map unwanted tags) in
     let m : Fits rows mid = fits-records rows B f (map unwanted tags) (map-kept isGraced unwanted (λ x. refl) tags)
     (numbered-same (map unwanted tags) tags (map-kept settingsOf unwanted (λ x. refl) tags) (f .table-fits .numbered)) in
-    fits-asked rows mid m (take (B .askedRoom) (askedTags tags)) (omega (arith, length-take (B .askedRoom) (askedTags tags)))
+    fits-asked rows mid m (askedTags tags) (ranked-few rows B f (λ (k : ℕ). isAsked (getD tags k freshTag)))
 
 -- ---- what is told
 
@@ -326,8 +285,7 @@ module _ (rows n : ℕ) where
         let B = describing (W .board) in
         let next = tallied (withBoard W B) (readStats (W .head .stats) (length (W .board .asked))) in
         let g = describing-fits rows (W .board) f in
-        rw (asked-same rows (W .board) f n)
-        (alike-if (isEmpty (B .asked)) _ _ _ _ (alike-checking next g) (alike-tell (phased next Describe) _ _ g (tags-few rows B g (B .asked) (g .asked-few))))
+        alike-if (isEmpty (B .asked)) _ _ _ _ (alike-checking next g) (alike-tell (phased next Describe) _ _ g (tags-few rows B g (B .asked) (g .asked-few)))
 
     -- Rule 6: a round
     module _ (W : Worker) (f : Fits rows (W .board)) (l : Listed (W .board .table)) where
@@ -337,46 +295,53 @@ module _ (rows n : ℕ) where
       abbrev R : Round
       R = roundAt W at
 
-      fit : rows ≤ B .askedRoom
-      fit = omega (arith, f .rooms .tags-fit)
+      abbrev o : Options
+      o = W .head .options
 
-      round-few : length (R .list) ≤ B .askedRoom
-      round-few = list-few (byKeys (B .keys)) rows (B .askedRoom) n (W .head .options) (pollingOf B (W .head .cycle)) (at .clock) l (f .table-fits) (f .groups-fit) fit
+      abbrev P : Polling
+      P = pollingOf B (W .head .cycle)
+
+      abbrev less : ℕ → ℕ → Bool
+      less = byKeys (B .keys)
+
+      -- there is room for all of its list
+      round-few : length (R .list) ≤ rows
+      round-few = list-few less rows n o P (at .clock) l (f .table-fits) (f .groups-fit)
+
+      enough : rows ≤ R .after .table .room
+      enough = room-enough less rows n o P (at .clock) l (f .table-fits) (f .groups-fit)
 
       worked-fits : Fits rows (withWorked W at R .board)
-      worked-fits =
-          let o = W .head .options in
-          let P = pollingOf B (W .head .cycle) in
-          let less = byKeys (B .keys) in
-          record {
-            table-fits = round-fits less rows (B .askedRoom) n o P (at .clock) l (f .table-fits) (f .groups-fit) fit;
-            groups-fit = groups-fit less rows (B .askedRoom) n o P (at .clock) l (f .table-fits) (f .groups-fit) fit;
-            named = f .named;
-            asked-few = round-few;
-            queue-few = f .queue-few;
-            rooms = f .rooms;
-          }
+      worked-fits = record {
+        table-fits = round-fits less rows n o P (at .clock) l (f .table-fits) (f .groups-fit);
+        groups-fit = groups-fit less rows n o P (at .clock) l (f .table-fits) (f .groups-fit);
+        named = f .named;
+        asked-few = omega (arith, round-few, length-take (R .after .table .room) (R .list));
+        queue-few = f .queue-few;
+        some = f .some;
+      }
 
       alike-polled : (R' : Round) → R' .tick ≡ R .tick → R' .boundary ≡ R .boundary → R' .after ≡ pollingRoomed n (R .after) → R' .list ≡ R .list → Alike (polled W at R) (polled (roomed n W) at R')
       unfolding polled
       alike-polled R' a b c d =
           let next = withWorked W at R in
-          rw (a, b, c, d)
+          let asked = next .board .asked in
+          let same : take (R .after .table .room + n) (R .list) ≡ take (R .after .table .room) (R .list) =
+          cut-same (R .after .table .room + n) (R .after .table .room) (R .list) (omega (arith, round-few, enough)) (omega (arith, round-few, enough))
+          in
+          rw (a, b, c, d, same)
           (alike-worked _ _ R _
-          (alike-if (isEmpty (R .list)) _ _ _ _ (alike-reading next worked-fits) (alike-tell (phased next Read) _ (tagBytes (R .list)) worked-fits (tags-few rows B f (R .list) round-few))))
+          (alike-if (isEmpty asked) _ _ _ _ (alike-reading next worked-fits) (alike-tell (phased next Read) _ (tagBytes asked) worked-fits (tags-few rows B f asked (worked-fits .asked-few)))))
 
       alike-poll : Alike (poll W at) (poll (roomed n W) at)
       unfolding poll
       alike-poll =
-          let o = W .head .options in
-          let P = pollingOf B (W .head .cycle) in
-          let less = byKeys (B .keys) in
           alike-if (W .head .link .stopping) _ _ _ _ (alike-writing W f End)
           (alike-polled (roundAt (roomed n W) at)
-          (tick-same less rows (B .askedRoom) n o P (at .clock) l (f .table-fits) (f .groups-fit) fit)
-          (boundary-same less rows (B .askedRoom) n o P (at .clock) l (f .table-fits) (f .groups-fit) fit)
-          (after-same less rows (B .askedRoom) n o P (at .clock) l (f .table-fits) (f .groups-fit) fit)
-          (list-same less rows (B .askedRoom) n o P (at .clock) l (f .table-fits) (f .groups-fit) fit))
+          (tick-same less rows n o P (at .clock) l (f .table-fits) (f .groups-fit))
+          (boundary-same less rows n o P (at .clock) l (f .table-fits) (f .groups-fit))
+          (after-same less rows n o P (at .clock) l (f .table-fits) (f .groups-fit))
+          (list-same less rows n o P (at .clock) l (f .table-fits) (f .groups-fit)))
 
     -- what T' tells, in terms of T
     told-same : (T T' : Told) → Alike T T' → T' ≡ record { left = roomed n (T .left); reply = T .reply; bytes = T .bytes; round = T' .round }
@@ -466,19 +431,20 @@ module _ (rows n : ℕ) where
 
   -- a tag and its word fit
   back-same : (W : Worker) → Fits rows (W .board) → (k : ℕ)
-      → take (W .board .askedRoom + n) (readBackTags (W .board .table .words) k) ≡ take (W .board .askedRoom) (readBackTags (W .board .table .words) k)
+      → take (W .board .table .room + n) (readBackTags (W .board .table .words) k) ≡ take (W .board .table .room) (readBackTags (W .board .table .words) k)
   back-same W f k =
-      let room = W .board .askedRoom in
-      let few = f .table-fits .backs k in
-      cut-same (room + n) room (readBackTags (W .board .table .words) k) (omega (arith, few, f .rooms .tags-fit)) (omega (arith, few, f .rooms .tags-fit))
+      let t = f .table-fits in
+      let room = W .board .table .room in
+      let few : length (readBackTags (W .board .table .words) k) ≤ room = omega (arith, t .backs k, t .graced .enough, t .long) in
+      cut-same (room + n) room (readBackTags (W .board .table .words) k) (omega (arith, few)) few
 
   alike-written : (W : Worker) → Fits rows (W .board) → (a : Answer) → Alike (written W a) (written (roomed n W) a)
   unfolding written
   alike-written W f a =
       let B = W .board in
       let k = W .head .progress .tag in
-      let asked = take (B .askedRoom) (readBackTags (B .table .words) k) in
-      let few : length asked ≤ B .askedRoom = omega (arith, length-take (B .askedRoom) (readBackTags (B .table .words) k)) in
+      let asked = take (B .table .room) (readBackTags (B .table .words) k) in
+      let few : length asked ≤ rows = omega (arith, length-take (B .table .room) (readBackTags (B .table .words) k), f .table-fits .backs k) in
       rw (back-same W f k)
       (alike-if (eqb (a .kind) 7) _ _ _ _ (alike-tell (phased (withBoard W (withAsked B asked)) ReadBack) _ (tagBytes asked) (fits-asked rows B f asked few) (tags-few rows B f asked few))
       (alike-if (eqb (a .kind) 8) _ _ _ _ (alike-ask W f RefusedTold _) (alike-ask W f LostTold _)))
@@ -491,7 +457,7 @@ module _ (rows n : ℕ) where
       let g : Fits rows (withAsked B (take (resultCount (a .list)) (B .asked))) = fits-asked rows B f _ (omega (arith, few, f .asked-few)) in
       alike-if (eqb (a .kind) 6) _ _ _ _ (alike-ask W f LostTold _)
       (alike-tell (phased (withBoard W (keptBack B (a .list))) OutcomeTold) _ []
-      (record { table-fits = g .table-fits; groups-fit = g .groups-fit; named = g .named; asked-few = g .asked-few; queue-few = g .queue-few; rooms = g .rooms }) (omega arith))
+      (record { table-fits = g .table-fits; groups-fit = g .groups-fit; named = g .named; asked-few = g .asked-few; queue-few = g .queue-few; some = g .some }) (omega arith))
 
   alike-back-applied : (W : Worker) → Fits rows (W .board) → (at : At) → Alike (backApplied W at) (backApplied (roomed n W) at)
   unfolding backApplied

@@ -1,5 +1,5 @@
 -- The results of a read-back are kept whole. An engine that waits for them has asked for two tags at most, and the bytes that keep them hold eight.
--- `apart-X` says of the definition X of `replies`, `cycles` or `worker` that it leaves no engine that waits for a read-back, and as many bytes.
+-- `apart-X` says of the definition X of `replies`, `cycles`, `step_answers` or `worker` that it leaves no engine that waits for a read-back, and as many bytes.
 use mathlib.Core.Path.{_≡_, refl, ap, sym, _∙_}
 use mathlib.Core.Bool.{Bool, true, false, cond, true≢false}
 use mathlib.Core.List.{List, [], _∷_}
@@ -17,7 +17,7 @@ use Rattle.words.specs.Value.{valueFrom}
 use Rattle.lent.specs.Lent.{overBytes, tagBytes}
 use Rattle.lent.proofs.LentLaws.{over-length}
 use Rattle.results.specs.Results.{resultCount, resultIn}
-use Rattle.versions.specs.Versions.{isReloaded}
+use Rattle.heads.specs.Version.{isReloaded}
 use Rattle.queue.specs.Queue.{popped}
 use Rattle.writes.specs.ReadBack.{readBackTags, readBackFirst, keptBack}
 use Rattle.queue.specs.declared.Popped.{Popped}
@@ -30,21 +30,24 @@ use Rattle.heads.specs.declared.progress.After.{After}
 use Rattle.heads.specs.declared.progress.After.the-variants.{Tail, Idle, End}
 use Rattle.heads.specs.declared.progress.Phase.{Phase}
 use Rattle.heads.specs.declared.progress.Phase.the-variants.{Begin, Connect, OpenVersion, Version, Read, Describe, Write, ReadBack, Wait, Backoff, OpenFailedTold, OpenMetaTold, ConnectedTold, MetaTold, ValuesTold, InfoTold, RefusedTold, LostTold, OutcomeTold, BackTold, FailedTold, StaleTold, DisconnectedTold, ConnectingTold, Stopped}
-use Rattle.readings.specs.Changes.{staledIn, appliedTo}
+use Rattle.readings.specs.Changes.{appliedTo}
+use Rattle.stale.specs.Stale.{staledIn}
 use Rattle.descriptions.specs.Descriptions.{describing}
 use Rattle.fresh.specs.Fresh.{freshBoard}
 use Rattle.replies.specs.Reply as reply
 use Rattle.replies.specs.Worker.{Worker, At, at, Told, tell, asks, withBoard, phased, tallied, goesOn}
 use Rattle.replies.specs.Losing.{isEmpty, ended, backingOff, disconnected, staling, down, top}
 use Rattle.cycles.specs.Polling.{elapsed, remaining, polls, idle, tail, resume, writingOf, writing, checking, reading, roundAt, withWorked, polled, poll, lastly, finished}
-use Rattle.worker.specs.Answers.{Answer, numberOf, versioned, connected, reconnecting, opened, openVersion, roundVersion, results, descriptions, written, readBack, backApplied, waited, backedOff, taken, handled, clocked, stepped, step}
+use Rattle.step_checks.specs.Awaited.{Answer}
+use Rattle.step_answers.specs.Answers.{numberOf, versioned, connected, reconnecting, opened, openVersion, roundVersion, results, descriptions, written, readBack, backApplied, waited, backedOff}
+use Rattle.worker.specs.Steps.{taken, handled, clocked, stepped, step}
 use Rattle.checks.specs.Calls.{tierCheck, loadCheck, writeCheck}
 use Rattle.capi.specs.Calls.{tiered, loaded, wrote, answerOf}
 use Rattle.checks.specs.Creation.{Setup}
 use Rattle.capi.specs.Creation.{freshWorker}
 use Rattle.histories.specs.Events.{Each}
 use Rattle.histories.specs.Histories.{atEach}
-use Rattle.turns.specs.Calls.{Call, tier, load, steps, write, stop, lookState, lookStats, lookCounts, lookGroups, lookTable, lookPanel, lookTag, after}
+use Rattle.turns.specs.Calls.{Call, tier, load, steps, write, stop, look, after}
 use Rattle.turns.specs.Demand.{moment}
 use Rattle.turns.proofs.StepLaws.{step-cases}
 use Rattle.uncut.specs.Backs.{BackWhole, BacksWhole}
@@ -140,8 +143,9 @@ module _ (at : At) where
   apart-poll W =
       let R = roundAt W at in
       let next = withWorked W at R in
-      let rest : Apart next (cond (isEmpty (R .list)) (reading next at) (tell (phased next Read) (reply.read (length (R .list))) (tagBytes (R .list)))) =
-      either (Apart next) (isEmpty (R .list)) _ _ (apart-reading next) (record { away = λ w. refl; long = refl }) in
+      let asked = next .board .asked in
+      let rest : Apart next (cond (isEmpty asked) (reading next at) (tell (phased next Read) (reply.read (length asked)) (tagBytes asked))) =
+      either (Apart next) (isEmpty asked) _ _ (apart-reading next) (record { away = λ w. refl; long = refl }) in
       either (Apart W) (W .head .link .stopping) _ _ (apart-writing W End) (record { away = λ w. rest .away w; long = rest .long })
 
   -- the wait after it, where there is one
@@ -260,7 +264,7 @@ two words k n = omega (arith, length-take n (readBackTags words k), go (ltb 1 (g
 held-written : (W : Worker) (a : Answer) → Held W → HeldTold (written W a)
 unfolding written
 held-written W a v =
-    either HeldTold (eqb (a .kind) 7) _ _ (record { held = record { long = v .long; few = λ t. two (W .board .table .words) (W .head .progress .tag) (W .board .askedRoom) }; on = λ g. absurd (true≢false (sym g)) })
+    either HeldTold (eqb (a .kind) 7) _ _ (record { held = record { long = v .long; few = λ t. two (W .board .table .words) (W .head .progress .tag) (W .board .table .room) }; on = λ g. absurd (true≢false (sym g)) })
     (either HeldTold (eqb (a .kind) 8) _ _ (record { held = away-held _ (v .long) refl; on = λ g. refl }) (record { held = away-held _ (v .long) refl; on = λ g. refl }))
 
 held-read-back : (W : Worker) (a : Answer) → Held W → HeldTold (readBack W a)
@@ -393,13 +397,7 @@ held-after (load clock list) W v = either Held (eqb (loadCheck W clock list) 0) 
 held-after (steps clock wall kind number message list out) W v = held-step W (at clock wall) (answerOf kind number message list) (length out) v
 held-after (write tag kind word) W v = either Held (eqb (writeCheck W tag (valueFrom kind word)) 0) (wrote W tag (valueFrom kind word)) W (record { long = v .long; few = v .few }) v
 held-after stop W v = record { long = v .long; few = v .few }
-held-after lookState W v = v
-held-after lookStats W v = v
-held-after lookCounts W v = v
-held-after (lookGroups out) W v = v
-held-after (lookTable out) W v = v
-held-after (lookPanel out) W v = v
-held-after (lookTag tag) W v = v
+held-after (look l) W v = v
 
 back-whole : (c : Call) (W : Worker) → Held W → BackWhole (moment c W)
 unfolding BackWhole
@@ -408,13 +406,7 @@ back-whole (load clock list) W v = tt
 back-whole (steps clock wall kind number message list out) W v = λ e. kept-step W v e (at clock wall) (answerOf kind number message list) (length out)
 back-whole (write tag kind word) W v = tt
 back-whole stop W v = tt
-back-whole lookState W v = tt
-back-whole lookStats W v = tt
-back-whole lookCounts W v = tt
-back-whole (lookGroups out) W v = tt
-back-whole (lookTable out) W v = tt
-back-whole (lookPanel out) W v = tt
-back-whole (lookTag tag) W v = tt
+back-whole (look l) W v = tt
 
 held-fresh : (s : Setup) → Held (freshWorker s)
 unfolding freshBoard

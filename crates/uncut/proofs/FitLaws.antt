@@ -26,8 +26,9 @@ use Rattle.rounds.specs.Due.{recordedDue}
 use Rattle.settings.specs.Records.{recordsIn, every}
 use Rattle.settings.specs.Settings.{settingFrom, settingIn, settingOk, settingsOk, rateOk, maxGroups}
 use Rattle.settings.specs.declared.configured.Configured.{Configured}
-use Rattle.versions.specs.Versions.{tagTaken, takenAt, eachAt, tableTaken, versionTable, isChanged, takesSettings}
-use Rattle.versions.specs.declared.version.Version.{Version}
+use Rattle.heads.specs.Version.{isChanged}
+use Rattle.versions.specs.Versions.{tagTaken, takenAt, eachAt, tableTaken, versionTable, takesSettings}
+use Rattle.heads.specs.declared.version.Version.{Version}
 use Rattle.board.specs.Board.{Board, Table, tagAt, withTags}
 use Rattle.writes.specs.ReadBack.{readBackTags}
 use Rattle.checks.specs.Calls.{maxWrites}
@@ -202,20 +203,15 @@ fit-tags rows T tags e r f = record {
 
 -- ---- boards
 
--- There is a tag at least. The list of tags asked for has a place for each, and the queue one for every write that may wait.
-pub record Enough (rows asked queue : ℕ) : Type 0 where
-  pub some : 1 ≤ rows
-  pub tags-fit : asked ≡ rows
-  pub queue-fits : maxWrites ≤ queue
-
 -- the numbers of the groups configured
 abbrev pub numbersOf : List Configured → List ℕ
 numbersOf l = map (λ (x : Configured). x .number) l
 
+-- A board for so many tags, one at least: no more are asked for, and no more writes wait than check 32 lets in.
 pub record Fits (rows : ℕ) (B : Board) : Type 0 where
   pub table-fits : FitTable rows (B .table)
   pub groups-fit : FitGroups (B .groups)
   pub named : Below maxGroups (numbersOf (B .configured))
-  pub asked-few : length (B .asked) ≤ B .askedRoom
+  pub asked-few : length (B .asked) ≤ rows
   pub queue-few : length (B .queue) ≤ maxWrites
-  pub rooms : Enough rows (B .askedRoom) (B .queueRoom)
+  pub some : 1 ≤ rows

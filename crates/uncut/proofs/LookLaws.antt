@@ -12,7 +12,7 @@ use Rattle.lists.proofs.CountLaws.{length-few}
 use Rattle.names.specs.Directory.{maxNames, namesOf}
 use Rattle.tiers.proofs.ListedLaws.{order-below}
 use Rattle.rounds.proofs.OnceLaws.{order-once}
-use Rattle.rounds.specs.declared.tick.Options.{Options}
+use Rattle.heads.specs.declared.options.Options.{Options}
 use Rattle.panel.specs.Panel.{tierIn, panelRoom, panelOf, written, writtenLength}
 use Rattle.lent.specs.Lent.{cellBytes, overBytes, records}
 use Rattle.lent.proofs.LentLaws.{length-bytes, length-records, all-fits}
@@ -22,7 +22,7 @@ use Rattle.settings.specs.Settings.{maxGroups}
 use Rattle.shown.specs.Looks.{factsOf, rowCells}
 use Rattle.replies.specs.Worker.{Worker}
 use Rattle.capi.specs.Looks.{groupCells, panelBytes}
-use Rattle.turns.specs.Calls.{Call, tier, load, steps, write, stop, lookState, lookStats, lookCounts, lookGroups, lookTable, lookPanel, lookTag, answer}
+use Rattle.turns.specs.Calls.{Call, tier, load, steps, write, stop, look, lookState, lookStats, lookCounts, lookGroups, lookTable, lookPanel, lookTag, answer}
 use Rattle.turns.specs.Demand.{moment}
 use Rattle.uncut.specs.Looks.{all, groupsIn, orderIn, rowsIn, panelIn, WholeLook, LooksWhole}
 use Rattle.turns.proofs.SoundLaws.{Sound}
@@ -43,7 +43,7 @@ module _ (o : Options) (ns : List (List ℕ)) (rows : ℕ) (within : rows ≤ ma
       let B = W .board in
       firsts-few maxGroups _ (below-append maxGroups (numbersOf (B .configured)) (B .groups .recorded) (f .named) (f .groups-fit .numbers .below))
 
-  groups-told : (out : List ℕ) → 16 ≤ length out / 40 → answer (lookGroups out) W ≡ all (length (groupsIn W)) (overBytes out (cellBytes (groupCells W)))
+  groups-told : (out : List ℕ) → 16 ≤ length out / 40 → answer (look (lookGroups out)) W ≡ all (length (groupsIn W)) (overBytes out (cellBytes (groupCells W)))
   unfolding answer groupsTold
   groups-told out h =
       let long : length (groupCells W) ≡ 5 * length (groupsIn W) = length-records (statCells (factsOf (W .board))) 5 (λ k. refl) (groupsIn W) in
@@ -60,7 +60,7 @@ module _ (o : Options) (ns : List (List ℕ)) (rows : ℕ) (within : rows ≤ ma
   rows-few : rowsIn W ≤ maxNames
   rows-few = omega (arith, within, f .table-fits .long)
 
-  table-told : (out : List ℕ) → maxNames ≤ length out / 16 → answer (lookTable out) W ≡ all (length (orderIn W)) (overBytes out (cellBytes (records (rowCells (W .board)) (orderIn W))))
+  table-told : (out : List ℕ) → maxNames ≤ length out / 16 → answer (look (lookTable out)) W ≡ all (length (orderIn W)) (overBytes out (cellBytes (records (rowCells (W .board)) (orderIn W))))
   unfolding answer
   table-told out h =
       let cells = records (rowCells (W .board)) (orderIn W) in
@@ -89,7 +89,7 @@ module _ (o : Options) (ns : List (List ℕ)) (rows : ℕ) (within : rows ≤ ma
       let tiers = map (tierIn (W .board .table .tags)) (orderIn W) in
       omega (arith, length-append (orderIn W) tiers, length-map (orderIn W) (tierIn (W .board .table .tags)), order-few)
 
-  panel-told : (out : List ℕ) → panelRoom maxNames ≤ length out → answer (lookPanel out) W ≡ all (length (panelIn W)) (panelIn W ++ drop (length (panelIn W)) out)
+  panel-told : (out : List ℕ) → panelRoom maxNames ≤ length out → answer (look (lookPanel out)) W ≡ all (length (panelIn W)) (panelIn W ++ drop (length (panelIn W)) out)
   unfolding answer written writtenLength
   panel-told out h = rw (panel-bytes, le-ltb (length out) (panelRoom maxNames) h, le-leb (length (panelIn W)) (length out) (omega (arith, h, panel-few, rows-few)))
 
@@ -100,13 +100,13 @@ module _ (o : Options) (ns : List (List ℕ)) (rows : ℕ) (within : rows ≤ ma
   whole-look (steps clock wall kind number message list out) = tt
   whole-look (write tag kind word) = tt
   whole-look stop = tt
-  whole-look lookState = tt
-  whole-look lookStats = tt
-  whole-look lookCounts = tt
-  whole-look (lookGroups out) = (groups-few, groups-told out)
-  whole-look (lookTable out) = (order-few, rows-few, table-told out)
-  whole-look (lookPanel out) = (panel-few, rows-few, panel-told out)
-  whole-look (lookTag tag) = tt
+  whole-look (look lookState) = tt
+  whole-look (look lookStats) = tt
+  whole-look (look lookCounts) = tt
+  whole-look (look (lookGroups out)) = (groups-few, groups-told out)
+  whole-look (look (lookTable out)) = (order-few, rows-few, table-told out)
+  whole-look (look (lookPanel out)) = (panel-few, rows-few, panel-told out)
+  whole-look (look (lookTag tag)) = tt
 
 -- Every look of every list of calls.
 pub looks-whole : LooksWhole

@@ -6,12 +6,11 @@ use Prim.Native.Nat.{ℕ, _+_, _≤_, _<_}
 use native.Mathlib.Omega.{arith}
 use lib.Dec.{eqb}
 use lib.Ieee.{Float, binary64, le, add, div}
-use lib.ListN.{length, getD, length-take}
+use lib.ListN.{length}
 use lib.Seq.{getD-set-same}
 use borrow.Author.Tests.{eqb-true}
 use Rattle.ieee.specs.Round.{float, slicesOf}
 use Rattle.lists.specs.Keep.{keep, count, Below}
-use Rattle.lists.specs.Sort.{sort}
 use Rattle.lists.proofs.CountLaws.{length-fewer}
 use Rattle.tags.specs.Lists.{pushed}
 use Rattle.table.specs.Tag.{f0, noGrace, freshTag}
@@ -27,17 +26,17 @@ use Rattle.tiers.proofs.GracedLaws.{graces-once, graces-below, graced-set, grac
 use Rattle.panel.specs.Panel.{loaded}
 use Rattle.panel.proofs.LoadLaws.{long-tier}
 use Rattle.groups.specs.Groups.{Groups}
-use Rattle.slices.specs.Slice.{isTier2, sliceTaken, nextIndex}
+use Rattle.slices.specs.Slice.{tier2Tags, sliceTaken, nextIndex}
 use Rattle.rounds.specs.Graces.{runOut}
-use Rattle.rounds.specs.Due.{isDue, marked, recordedDue, noneSeen}
-use Rattle.rounds.specs.Added.{isAdded, settled}
-use Rattle.rounds.specs.Missing.{isHeldBack}
-use Rattle.rounds.specs.Round.{Polling, Rooms, Round, cycleAfter, round}
-use Rattle.rounds.specs.declared.tick.Options.{Options}
-use Rattle.rounds.specs.declared.tick.Cycle.{Cycle}
-use Rattle.rounds.proofs.NameLaws.{expired-below}
-use Rattle.rounds.proofs.OnceLaws.{Whole, order-once}
-use Rattle.rounds.proofs.GracedLaws.{graced-round, round-uncut}
+use Rattle.rounds.specs.Due.{dueTags, marked, recordedDue, noneSeen}
+use Rattle.rounds.specs.Added.{withAddedTags, settled}
+use Rattle.rounds.specs.Missing.{notHeldBack}
+use Rattle.rounds.specs.Round.{Polling, Round, cycleAfter, round}
+use Rattle.heads.specs.declared.options.Options.{Options}
+use Rattle.heads.specs.declared.cycle.Cycle.{Cycle}
+use Rattle.rounds.proofs.GraceLaws.{expired-below}
+use Rattle.rounds.proofs.OnceLaws.{order-once, round-short}
+use Rattle.rounds.proofs.GracedLaws.{graced-round}
 use Rattle.uncut.specs.Uncut.{tableRoomed, groupsRoomed}
 use Rattle.turns.proofs.TierLaws.{settingsOf, map-kept}
 use Rattle.turns.proofs.RateLaws.{tier-settings}
@@ -45,13 +44,6 @@ use Rattle.turns.proofs.RoundLaws.{round-settings, round-long}
 use Rattle.uncut.proofs.FitLaws.{pushed-same, numbered-same, FitTable, FitGroups, Noted, due-fits}
 
 -- ---- tier changes
-
--- a table with more room is listed, and its graces are those of its tags
-listed-roomed : (n : ℕ) (T : Table) → Listed T → Listed (tableRoomed n T)
-listed-roomed n T l = record { once = l .once; graced = l .graced; enough = omega (arith, l .enough) }
-
-graced-roomed : (n : ℕ) (T : Table) → Graced T → Graced (tableRoomed n T)
-graced-roomed n T g = record { once = g .once; enough = omega (arith, g .enough) }
 
 -- either of two
 either : (n : ℕ) (b : Bool) (x x' y y' : Table) → x' ≡ tableRoomed n x → y' ≡ tableRoomed n y → cond b x' y' ≡ tableRoomed n (cond b x y)
@@ -63,17 +55,17 @@ module _ (n : ℕ) (T : Table) (l : Listed T) (k : ℕ) (h : k < length (T .tags
   order-short : tagAt T k .tier ≡ 0 → length (T .order) < length (T .tags)
   order-short z = length-fewer (length (T .tags)) k (T .order) (order-below T l) (order-once T l) h (l .once k ∙ ap inTier z)
 
-  order-roomed : (tier : ℕ) → orderSet (T .orderRoom + n) (T .order) k (tagAt T k .tier) tier ≡ orderSet (T .orderRoom) (T .order) k (tagAt T k .tier) tier
+  order-roomed : (tier : ℕ) → orderSet (T .room + n) (T .order) k (tagAt T k .tier) tier ≡ orderSet (T .room) (T .order) k (tagAt T k .tier) tier
   unfolding orderSet
   order-roomed tier = go (eqb (tagAt T k .tier) 0) refl (eqb tier 0)
     where
       go : (a : Bool) → eqb (tagAt T k .tier) 0 ≡ a → (b : Bool)
-          → _≡_ {A = List ℕ} (cond a (cond b (T .order) (pushed (T .orderRoom + n) (T .order) k)) (cond b (keep (λ (x : ℕ). not (eqb k x)) (T .order)) (T .order)))
-          (cond a (cond b (T .order) (pushed (T .orderRoom) (T .order) k)) (cond b (keep (λ (x : ℕ). not (eqb k x)) (T .order)) (T .order)))
+          → _≡_ {A = List ℕ} (cond a (cond b (T .order) (pushed (T .room + n) (T .order) k)) (cond b (keep (λ (x : ℕ). not (eqb k x)) (T .order)) (T .order)))
+          (cond a (cond b (T .order) (pushed (T .room) (T .order) k)) (cond b (keep (λ (x : ℕ). not (eqb k x)) (T .order)) (T .order)))
       go true e true = refl
       go true e false =
           let s = order-short (eqb-true (tagAt T k .tier) 0 e) in
-          pushed-same (T .orderRoom + n) (T .orderRoom) (T .order) k (omega (arith, s, l .enough)) (omega (arith, s, l .enough))
+          pushed-same (T .room + n) (T .room) (T .order) k (omega (arith, s, l .enough)) (omega (arith, s, l .enough))
       go false e b = refl
 
   put-roomed : (tier : ℕ) (g : Grace) → putTable (tableRoomed n T) k tier g ≡ tableRoomed n (putTable T k tier g)
@@ -101,7 +93,7 @@ module _ (n : ℕ) (T : Table) (l : Listed T) (k : ℕ) (h : k < length (T .tags
     enter-roomed : (deadline : Float) (after : ℕ) → enterGrace (tableRoomed n T) k deadline after ≡ tableRoomed n (enterGrace T k deadline after)
     unfolding enterGrace putTable
     enter-roomed deadline after =
-        rw (order-roomed 2, pushed-same (T .graceRoom + n) (T .graceRoom) ended k (omega (arith, ended-short, g .enough)) (omega (arith, ended-short, g .enough)))
+        rw (order-roomed 2, pushed-same (T .room + n) (T .room) ended k (omega (arith, ended-short, g .enough)) (omega (arith, ended-short, g .enough)))
 
     -- Rule 5: a tier call
     pub tier-roomed : (tier : ℕ) (grace clock : Float) → setTier (tableRoomed n T) k tier grace clock ≡ tableRoomed n (setTier T k tier grace clock)
@@ -167,22 +159,18 @@ run-out-roomed n T l (k ∷ ks) b =
 
 -- ---- a round
 
-abbrev pub roomsOf : ℕ → Rooms
-roomsOf m = record { sorted = m; wanted = m; list = m }
-
 abbrev polling : Table → Groups → Cycle → Polling
 polling T G c = record { table = T; groups = G; cycle = c }
 
 abbrev pub pollingRoomed : ℕ → Polling → Polling
 pollingRoomed n P = record { table = tableRoomed n (P .table); groups = groupsRoomed n (P .groups); cycle = P .cycle }
 
-module _ (less : ℕ → ℕ → Bool) (rows room n : ℕ) (o : Options) (P : Polling) (clock : Float) (l : Listed (P .table)) (f : FitTable rows (P .table)) (g : FitGroups (P .groups))
-    (fit : rows ≤ room) where
+module _ (less : ℕ → ℕ → Bool) (rows n : ℕ) (o : Options) (P : Polling) (clock : Float) (l : Listed (P .table)) (f : FitTable rows (P .table)) (g : FitGroups (P .groups)) where
   abbrev R : Round
-  R = round less (roomsOf room) o P clock
+  R = round less o P clock
 
   abbrev R' : Round
-  R' = round less (roomsOf (room + n)) o (pollingRoomed n P) clock
+  R' = round less o (pollingRoomed n P) clock
 
   abbrev T : Table
   T = P .table
@@ -190,70 +178,35 @@ module _ (less : ℕ → ℕ → Bool) (rows room n : ℕ) (o : Options) (P : Po
   abbrev left : Table
   left = runOut T (R .ranOut)
 
-  abbrev left' : Table
-  left' = runOut (tableRoomed n T) (R' .ranOut)
+  -- what is worked out over the table that the graces leave
+  abbrev dueOf : Table → List ℕ
+  dueOf X = dueTags (X .tags) (X .order) clock (div binary64 (R .tick) (float 2)) (o .cycle)
+
+  abbrev readOf : Table → List Tag
+  readOf X = marked (X .tags) clock (dueOf X)
+
+  abbrev tier2Of : Table → List ℕ
+  tier2Of X = tier2Tags less (readOf X) (X .order)
+
+  abbrev sliceOf : Table → List ℕ
+  sliceOf X = sliceTaken (R .boundary) (slicesOf (o .period) (o .cycle)) (tier2Of X) (P .cycle .index)
+
+  abbrev listOf : Table → List ℕ
+  listOf X = notHeldBack (readOf X) (withAddedTags (readOf X) (dueOf X ++ sliceOf X) (byRank (readOf X))) clock
 
   abbrev read : List Tag
-  read = marked (left .tags) clock (R .due)
-
-  abbrev read' : List Tag
-  read' = marked (left' .tags) clock (R' .due)
-
-  -- rule 6 with no list cut, with both rooms
-  pub whole : Whole less (roomsOf room) o P clock
-  whole = let h : length (T .tags) ≤ room = omega (arith, f .long) in round-uncut less (roomsOf room) o P clock l (f .graced) h h h
-
-  whole' : Whole less (roomsOf (room + n)) o (pollingRoomed n P) clock
-  whole' =
-      let h : length (T .tags) ≤ room + n = omega (arith, f .long) in
-      round-uncut less (roomsOf (room + n)) o (pollingRoomed n P) clock (listed-roomed n T l) (graced-roomed n T (f .graced)) h h h
-
-  ran-out-same : R' .ranOut ≡ R .ranOut
-  unfolding round
-  ran-out-same = whole' .ran-out-all ∙ sym (whole .ran-out-all)
+  read = readOf left
 
   ran-out-below : Below (length (T .tags)) (R .ranOut)
   unfolding round
-  ran-out-below = expired-below T l (R .boundary) room clock
+  ran-out-below = expired-below T l (R .boundary) clock
 
-  left-same : left' ≡ tableRoomed n left
-  left-same = ap (runOut (tableRoomed n T)) ran-out-same ∙ run-out-roomed n T l (R .ranOut) ran-out-below
-
-  due-same : R' .due ≡ R .due
-  unfolding round
-  due-same =
-      whole' .due-all
-      ∙ ap (λ (X : Table). keep (λ (k : ℕ). isDue (getD (X .tags) k freshTag) clock (div binary64 (R .tick) (float 2)) (o .cycle)) (X .order)) left-same
-      ∙ sym (whole .due-all)
-
-  read-same : read' ≡ read
-  read-same = ap (λ (X : Table). marked (X .tags) clock (R' .due)) left-same ∙ ap (marked (left .tags) clock) due-same
-
-  tier2-same : R' .tier2 ≡ R .tier2
-  tier2-same =
-      whole' .tier2-all
-      ∙ ap (λ (X : Table). sort less (keep (isTier2 read') (X .order))) left-same
-      ∙ ap (λ (tags : List Tag). sort less (keep (isTier2 tags) (left .order))) read-same
-      ∙ sym (whole .tier2-all)
-
-  slice-same : R' .slice ≡ R .slice
-  unfolding round
-  slice-same = ap (λ (t : List ℕ). sliceTaken (R .boundary) (slicesOf (o .period) (o .cycle)) t (P .cycle .index)) tier2-same
-
-  wanted-same : R' .wanted ≡ R .wanted
-  wanted-same =
-      let both : R' .due ++ R' .slice ≡ R .due ++ R .slice = ap (λ (x : List ℕ). x ++ R' .slice) due-same ∙ ap (λ (x : List ℕ). R .due ++ x) slice-same in
-      whole' .wanted-all
-      ∙ ap (λ (x : List ℕ). x ++ keep (isAdded read' x) (byRank read')) both
-      ∙ ap (λ (tags : List Tag). (R .due ++ R .slice) ++ keep (isAdded tags (R .due ++ R .slice)) (byRank tags)) read-same
-      ∙ sym (whole .wanted-all)
+  left-same : runOut (tableRoomed n T) (R .ranOut) ≡ tableRoomed n left
+  left-same = run-out-roomed n T l (R .ranOut) ran-out-below
 
   pub list-same : R' .list ≡ R .list
-  list-same =
-      whole' .list-all
-      ∙ ap (λ (x : List ℕ). keep (λ (k : ℕ). not (isHeldBack (getD read' k freshTag) clock)) x) wanted-same
-      ∙ ap (λ (tags : List Tag). keep (λ (k : ℕ). not (isHeldBack (getD tags k freshTag) clock)) (R .wanted)) read-same
-      ∙ sym (whole .list-all)
+  unfolding round
+  list-same = ap listOf left-same
 
   pub tick-same : R' .tick ≡ R .tick
   unfolding round
@@ -267,7 +220,7 @@ module _ (less : ℕ → ℕ → Bool) (rows room n : ℕ) (o : Options) (P : Po
   due-noted : Noted n (recordedDue read clock noneSeen (P .groups) (R .due)) (recordedDue read clock noneSeen (groupsRoomed n (P .groups)) (R .due))
   unfolding round
   due-noted =
-      due-fits n read (numbered-same read (T .tags) (sym (map-kept settingsOf settled (λ x. refl) read) ∙ round-settings less (roomsOf room) o P clock) (f .numbered))
+      due-fits n read (numbered-same read (T .tags) (sym (map-kept settingsOf settled (λ x. refl) read) ∙ round-settings less o P clock) (f .numbered))
       clock noneSeen (P .groups) g (R .due)
 
   -- the table, the groups and the last boundary that it leaves
@@ -275,13 +228,10 @@ module _ (less : ℕ → ℕ → Bool) (rows room n : ℕ) (o : Options) (P : Po
   unfolding round
   after-same =
       let S = slicesOf (o .period) (o .cycle) in
-      let ends : List ℕ → Cycle = λ t. cycleAfter (P .cycle) (R .boundary) clock (nextIndex (R .boundary) S t (P .cycle .index)) in
-      let groups : List Tag → List ℕ → Groups = λ tags ks. recordedDue tags clock noneSeen (groupsRoomed n (P .groups)) ks in
-      ap (λ (X : Table). polling (withTags X (map settled read')) (groups read' (R' .due)) (ends (R' .tier2))) left-same
-      ∙ ap (λ (tags : List Tag). polling (withTags (tableRoomed n left) (map settled tags)) (groups tags (R' .due)) (ends (R' .tier2))) read-same
-      ∙ ap (λ (ks : List ℕ). polling (withTags (tableRoomed n left) (map settled read)) (groups read ks) (ends (R' .tier2))) due-same
-      ∙ ap (λ (t : List ℕ). polling (withTags (tableRoomed n left) (map settled read)) (groups read (R .due)) (ends t)) tier2-same
-      ∙ ap (λ (G : Groups). polling (withTags (tableRoomed n left) (map settled read)) G (ends (R .tier2))) (due-noted .same)
+      let ends : Table → Cycle = λ X. cycleAfter (P .cycle) (R .boundary) clock (nextIndex (R .boundary) S (tier2Of X) (P .cycle .index)) in
+      let noted : Table → Groups = λ X. recordedDue (readOf X) clock noneSeen (groupsRoomed n (P .groups)) (dueOf X) in
+      ap (λ (X : Table). polling (withTags X (map settled (readOf X))) (noted X) (ends X)) left-same
+      ∙ ap (λ (G : Groups). polling (withTags (tableRoomed n left) (map settled read)) G (ends left)) (due-noted .same)
 
   -- a round keeps what fits
   round-words : R .after .table .words ≡ T .words
@@ -290,9 +240,9 @@ module _ (less : ℕ → ℕ → Bool) (rows room n : ℕ) (o : Options) (P : Po
 
   pub round-fits : FitTable rows (R .after .table)
   round-fits = record {
-    graced = graced-round less (roomsOf room) o P clock l (f .graced);
-    long = round-long less (roomsOf room) o P clock l ∙ f .long;
-    numbered = numbered-same (R .after .table .tags) (T .tags) (round-settings less (roomsOf room) o P clock) (f .numbered);
+    graced = graced-round less o P clock l (f .graced);
+    long = round-long less o P clock l ∙ f .long;
+    numbered = numbered-same (R .after .table .tags) (T .tags) (round-settings less o P clock) (f .numbered);
     backs = rw round-words (f .backs);
   }
 
@@ -300,6 +250,9 @@ module _ (less : ℕ → ℕ → Bool) (rows room n : ℕ) (o : Options) (P : Po
   unfolding round
   groups-fit = due-noted .fits
 
-  pub list-few : length (R .list) ≤ room
-  unfolding round
-  list-few = omega (arith, length-take room (keep (λ (k : ℕ). not (isHeldBack (getD read k freshTag) clock)) (R .wanted)))
+  -- there is room for its list
+  pub list-few : length (R .list) ≤ rows
+  list-few = omega (arith, round-short less o P clock l, f .long)
+
+  pub room-enough : rows ≤ R .after .table .room
+  room-enough = omega (arith, round-fits .graced .enough, round-fits .long)

@@ -1,6 +1,6 @@
 -- No list is ever cut: every call of an engine comes to the same with more room.
 use mathlib.Core.Path.{_≡_, refl, ap, sym, _∙_}
-use mathlib.Core.Bool.{Bool, true, false, not, _&&_, cond}
+use mathlib.Core.Bool.{Bool, true, false, cond}
 use mathlib.Core.List.{List, [], _∷_, _++_, map}
 use mathlib.Core.Option.{some}
 use Prim.Native.Nat.{ℕ, zero, suc, _-_, _*_, _/_, _≤_, _<_}
@@ -8,12 +8,11 @@ use native.Mathlib.Omega.{arith}
 use lib.Dec.{eqb, ltb, leb}
 use lib.Ieee.{Float}
 use lib.ListN.{length, getD, replicate, length-append, length-map, length-replicate, List·getD-eq-default}
-use lib.Seq.{take-all}
-use borrow.Author.Tests.{eqb-true, ltb-true, ltb-false, leb-true, leb-false, lt-ltb}
+use borrow.Author.Tests.{eqb-true, ltb-true, ltb-false}
 use Rattle.lists.specs.Keep.{Below}
 use Rattle.lists.specs.Sort.{byKeys}
 use Rattle.lists.proofs.KeepLaws.{below-more}
-use Rattle.names.specs.Directory.{namesOf, directoryCheck, maxNames, maxNameLength}
+use Rattle.names.specs.Directory.{namesOf, maxNames}
 use Rattle.names.proofs.DirectoryLaws.{length-names}
 use Rattle.ranks.specs.Ranks.{over, wordCode, wordsOf}
 use Rattle.ranks.proofs.Laws.{over-all, each-long}
@@ -25,16 +24,11 @@ use Rattle.table.specs.Tag.{freshTag}
 use Rattle.tiers.specs.Tiers.{setTier}
 use Rattle.panel.specs.Panel.{panelCheck, tagsOf, tiersOf}
 use Rattle.settings.specs.Records.{recordsIn, every}
-use Rattle.settings.specs.Settings.{settingsOk, maxGroups, rateOk}
+use Rattle.settings.specs.Settings.{maxGroups, rateOk}
 use Rattle.settings.specs.Configured.{configuredFrom, givenGroups, groupOk, configuredOk}
-use Rattle.settings.proofs.GroupLaws.{length-given}
-use Rattle.results.specs.Results.{valueOk}
 use Rattle.versions.specs.Versions.{tagTaken, takenAt, tableTaken}
-use Rattle.rounds.specs.Options.{optionsCheck}
 use Rattle.rounds.specs.Round.{Round, pollingOf}
-use Rattle.rounds.specs.declared.tick.Options.{Options}
-use Rattle.heads.specs.Link.{isState}
-use Rattle.heads.specs.declared.link.State.the-variants.{Connected}
+use Rattle.heads.specs.declared.options.Options.{Options}
 use Rattle.heads.specs.declared.progress.After.the-variants.{End}
 use Rattle.lent.specs.Lent.{overBytes, wroteAll}
 use Rattle.lent.specs.Changes.{changeSize}
@@ -42,22 +36,23 @@ use Rattle.lent.proofs.LentLaws.{all-fits}
 use Rattle.histories.specs.Events.{Each}
 use Rattle.histories.specs.Histories.{atEach, answers, states}
 use Rattle.board.specs.Board.{Board, withTable, Table}
-use Rattle.fresh.specs.Fresh.{configuredRoom, freshBoard}
+use Rattle.fresh.specs.Fresh.{freshBoard}
 use Rattle.writes.specs.ReadBack.{readBackTags}
 use Rattle.replies.specs.Worker.{Worker, At, Told, tell, at, goesOn}
 use Rattle.cycles.specs.Polling.{waiting, writing, roundAt, polled, poll, lastly, finished}
 use Rattle.replies.specs.Reply as reply
-use Rattle.worker.specs.Answers.{Answer, contents, stepCheck, clocked, stepped, step}
-use Rattle.checks.specs.Calls.{clockCheck, noTag, tierCheck, loadCheck, writeCheck, maxWrites}
+use Rattle.step_checks.specs.Awaited.{Answer, contents, stepCheck}
+use Rattle.worker.specs.Steps.{clocked, stepped, step}
+use Rattle.checks.specs.Calls.{clockCheck, tierCheck, loadCheck, writeCheck}
 use Rattle.capi.specs.Calls.{tiered, writeOf, wrote, answerOf}
 use Rattle.capi.specs.Calls as calls
 use Rattle.checks.specs.Creation.{Setup, creationCheck}
-use Rattle.checks.proofs.Laws.{first-zero}
+use Rattle.checks.proofs.Laws.{first-zero, write-room, groups-good}
 use Rattle.capi.specs.Creation.{freshWorker}
-use Rattle.turns.specs.Calls.{Call, tier, load, steps, write, stop, lookState, lookStats, lookCounts, lookGroups, lookTable, lookPanel, lookTag, Answer as Said, accepted, answer, after}
+use Rattle.turns.specs.Calls.{Look, lookState, lookStats, lookCounts, lookGroups, lookTable, lookPanel, lookTag, Call, tier, load, steps, write, stop, look, Answer as Said, accepted, answer, after}
 use Rattle.turns.specs.Demand.{Moment, moment}
 use Rattle.turns.specs.Once.{answeredTo}
-use Rattle.uncut.specs.Uncut.{roomed, NeverCut, WholeAt, WholeStep, StepsWhole, SetupsWhole}
+use Rattle.uncut.specs.Uncut.{roomed, NeverCut, WholeStep, StepsWhole}
 use Rattle.turns.proofs.KeepLaws.{Keeps}
 use Rattle.turns.proofs.StillLaws.{still-writing, still-handled}
 use Rattle.turns.proofs.StepLaws.{Accepted, accepted-step, step-cases}
@@ -65,7 +60,7 @@ use Rattle.turns.proofs.SoundLaws.{Sound, sound-kept, sound-clocked}
 use Rattle.turns.proofs.RateLaws.{both}
 use Rattle.turns.proofs.CallLaws.{tier-inside, panel-inside, names-some, names-few, settings-good, sound-fresh, sound-after}
 use Rattle.uncut.proofs.FitLaws.{isGraced, numbered-taken, FitTable, numbersOf, Fits}
-use Rattle.uncut.proofs.RoomLaws.{tier-roomed, fit-tier, load-roomed, whole}
+use Rattle.uncut.proofs.RoomLaws.{tier-roomed, fit-tier, load-roomed, list-few, room-enough}
 use Rattle.uncut.proofs.AlikeLaws.{each-kept, fits-queue, Alike, alike-tell, alike-finished, alike-handled}
 
 -- ---- a step
@@ -95,13 +90,19 @@ module _ (o : Options) (ns : List (List ℕ)) (rows n : ℕ) where
         go true e = alike-stepped (accepted-step W at a out (eqb-true (stepCheck W at a out) 0 e))
         go false e = alike-tell rows n W (reply.refused (stepCheck W at a out)) [] f (omega arith)
 
-    -- the round that an accepted step works out
-    pub whole-answered : Accepted W at a → WholeAt (answeredTo W at a .left) at
-    whole-answered c =
+    -- there is room for the list of the round that an accepted step works out
+    pub round-room : Accepted W at a → (length (roundAt (answeredTo W at a .left) at .list) ≤ roundAt (answeredTo W at a .left) at .after .table .room)
+    round-room c =
         let M = answeredTo W at a .left in
         let g = alike-answered c .fits in
-        whole (byKeys (M .board .keys)) rows (M .board .askedRoom) n (M .head .options) (pollingOf (M .board) (M .head .cycle)) (at .clock)
-        (answered-sound c .listed) (g .table-fits) (g .groups-fit) (omega (arith, g .rooms .tags-fit))
+        let less = byKeys (M .board .keys) in
+        let P = pollingOf (M .board) (M .head .cycle) in
+        let l = answered-sound c .listed in
+        omega (
+          arith,
+          list-few less rows n (M .head .options) P (at .clock) l (g .table-fits) (g .groups-fit),
+          room-enough less rows n (M .head .options) P (at .clock) l (g .table-fits) (g .groups-fit),
+        )
 
 -- what follows a round works out none
 lastly-round : (now : At) (T : Told) → lastly T now .round ≡ T .round
@@ -185,7 +186,7 @@ module _ (o : Options) (ns : List (List ℕ)) (rows n : ℕ) where
 
   -- the table replaced
   fits-table : (B : Board) → Fits rows B → (T : Table) → FitTable rows T → Fits rows (withTable B T)
-  fits-table B f T t = record { table-fits = t; groups-fit = f .groups-fit; named = f .named; asked-few = f .asked-few; queue-few = f .queue-few; rooms = f .rooms }
+  fits-table B f T t = record { table-fits = t; groups-fit = f .groups-fit; named = f .named; asked-few = f .asked-few; queue-few = f .queue-few; some = f .some }
 
   module _ (W : Worker) (s : Sound o ns W) (f : Fits rows (W .board)) where
     abbrev T : Table
@@ -211,28 +212,24 @@ module _ (o : Options) (ns : List (List ℕ)) (rows n : ℕ) where
         let r = load-roomed rows n T (s .listed) (f .table-fits) (tagsOf list) (tiersOf list) (W .head .options .grace) clock (below-more (W .head .count) (length (T .tags)) (tagsOf list) (s .few) i) in
         (fits-table (W .board) f _ (r .1), rw (r .0))) f
 
-    -- Check 32: a write that is accepted finds fewer than 32 waiting
-    few-wait : (tag : ℕ) (v : Value) → writeCheck W tag v ≡ 0 → length (W .board .queue) < maxWrites
-    unfolding writeCheck
-    few-wait tag v e = go (noTag W tag) (not (isState (W .head .link) Connected)) (leb maxWrites (length (W .board .queue))) refl (valueOk v) e
-      where
-        go : (x y z : Bool) → leb maxWrites (length (W .board .queue)) ≡ z → (u : Bool) → _≡_ {A = ℕ} (cond x 23 (cond y 31 (cond z 32 (cond u 0 42)))) 0 → length (W .board .queue) < maxWrites
-        go true y z p u e = absurd (omega arith)
-        go false true z p u e = absurd (omega arith)
-        go false false true p u e = absurd (omega arith)
-        go false false false p u e = leb-false maxWrites (length (W .board .queue)) p
-
     -- Rule 8: a write
     write-left : (tag : ℕ) (v : Value) → Left (writeCheck W tag v) (wrote W tag v) (wrote (roomed n W) tag v) W
     write-left tag v =
         left-if (writeCheck W tag v) _ _ W (λ e.
         let q = W .board .queue in
         let w = writeOf tag v in
-        let h = few-wait tag v e in
-        let a = lt-ltb (length q) (W .board .queueRoom) (omega (arith, h, f .rooms .queue-fits)) in
-        let b = lt-ltb (length q) (roomed n W .board .queueRoom) (omega (arith, h, f .rooms .queue-fits)) in
-        let long = length-append q (w ∷ []) in
-        (rw a (fits-queue rows (W .board) f (q ++ (w ∷ [])) (omega (arith, h, long))), rw (a, b))) f
+        (fits-queue rows (W .board) f (q ++ (w ∷ [])) (omega (arith, write-room W tag v e, length-append q (w ∷ []))), refl)) f
+
+    -- no look goes by room
+    look-same : (l : Look) → answer (look l) (roomed n W) ≡ answer (look l) W
+    unfolding answer
+    look-same lookState = refl
+    look-same lookStats = refl
+    look-same lookCounts = refl
+    look-same (lookGroups out) = refl
+    look-same (lookTable out) = refl
+    look-same (lookPanel out) = refl
+    look-same (lookTag tag) = refl
 
     -- every call
     same-call : (c : Call) → Same c W
@@ -244,13 +241,7 @@ module _ (o : Options) (ns : List (List ℕ)) (rows n : ℕ) where
         record { fits = a .fits; after-same = a .left-same; answer-same = rw (a .reply-same, a .bytes-same) }
     same-call (write tag kind word) = let x = write-left tag (valueFrom kind word) in record { fits = x .left-fits; after-same = x .left-same; answer-same = refl }
     same-call stop = record { fits = f; after-same = refl; answer-same = refl }
-    same-call lookState = record { fits = f; after-same = refl; answer-same = refl }
-    same-call lookStats = record { fits = f; after-same = refl; answer-same = refl }
-    same-call lookCounts = record { fits = f; after-same = refl; answer-same = refl }
-    same-call (lookGroups out) = record { fits = f; after-same = refl; answer-same = refl }
-    same-call (lookTable out) = record { fits = f; after-same = refl; answer-same = refl }
-    same-call (lookPanel out) = record { fits = f; after-same = refl; answer-same = refl }
-    same-call (lookTag tag) = record { fits = f; after-same = refl; answer-same = refl }
+    same-call (look l) = record { fits = f; after-same = refl; answer-same = look-same l }
 
     -- the lists of a step
     whole-call : rows ≤ maxNames → (c : Call) → WholeStep (moment c W)
@@ -260,16 +251,10 @@ module _ (o : Options) (ns : List (List ℕ)) (rows n : ℕ) where
     whole-call within (steps clock wall kind number message list out) =
         let now = at clock wall in
         let a = answerOf kind number message list in
-        (λ R e. let r = step-round W now a (length out) R e in (r .1, whole-answered o ns rows n W s f now a (r .0)), bytes-written o ns rows n within W s f now a out)
+        (λ R e. let r = step-round W now a (length out) R e in (r .1, rw (r .1) (round-room o ns rows n W s f now a (r .0))), bytes-written o ns rows n within W s f now a out)
     whole-call within (write tag kind word) = tt
     whole-call within stop = tt
-    whole-call within lookState = tt
-    whole-call within lookStats = tt
-    whole-call within lookCounts = tt
-    whole-call within (lookGroups out) = tt
-    whole-call within (lookTable out) = tt
-    whole-call within (lookPanel out) = tt
-    whole-call within (lookTag tag) = tt
+    whole-call within (look l) = tt
 
 -- ---- creation
 
@@ -280,15 +265,6 @@ fresh-grace (suc m) zero = refl
 fresh-grace (suc m) (suc k) = fresh-grace m k
 
 -- Check 14: the groups configured
-groups-good : (s : Setup) → creationCheck s ≡ 0 → configuredOk (s .groups) ≡ true
-unfolding creationCheck
-groups-good s e = go (settingsOk (length (s .ends)) (s .settings)) (configuredOk (s .groups)) refl (first-zero (optionsCheck (s .options)) _ (first-zero (directoryCheck maxNames maxNameLength (s .names) (s .ends)) _ e .1) .1)
-  where
-    go : (b c : Bool) → configuredOk (s .groups) ≡ c → _≡_ {A = ℕ} (cond (b && c) 0 14) 0 → configuredOk (s .groups) ≡ true
-    go true true p e = p
-    go true false p e = absurd (omega arith)
-    go false c p e = absurd (omega arith)
-
 numbers-below : (rs : List (List ℕ)) → every groupOk rs ≡ true → Below maxGroups (numbersOf (map configuredFrom rs))
 unfolding every groupOk configuredFrom
 numbers-below [] e = tt
@@ -325,21 +301,13 @@ module _ (ns : List (List ℕ)) (some : 1 ≤ length ns) (small : length ns ≤ 
       go true e = omega (arith, two-few k (ltb-true 1 (getD words k 0) e))
       go false e = omega arith
 
--- all groups that creation is given are kept, and their numbers are 0 to 15
+-- a fresh engine fits
 module _ (s : Setup) (e : creationCheck s ≡ 0) where
-  good-groups : (length (s .groups) / 16 ≤ maxGroups) × (every groupOk (recordsIn 2 (s .groups)) ≡ true)
-  unfolding configuredOk
-  good-groups =
-      let b = both (leb (length (s .groups) / 16) maxGroups) (every groupOk (recordsIn 2 (s .groups))) (both (eqb (length (s .groups)) (16 * (length (s .groups) / 16))) _ (groups-good s e) .1) in
-      (leb-true (length (s .groups) / 16) maxGroups (b .0), b .1)
-
-  all-configured : freshWorker s .board .configured ≡ givenGroups (s .groups)
-  unfolding freshBoard
-  all-configured = take-all configuredRoom (givenGroups (s .groups)) (omega (arith, length-given (s .groups), good-groups .0))
-
+  -- the numbers of the groups that creation is given are 0 to 15
   configured-below : Below maxGroups (numbersOf (freshWorker s .board .configured))
-  unfolding givenGroups
-  configured-below = rw all-configured (numbers-below (recordsIn 2 (s .groups)) (good-groups .1))
+  unfolding freshBoard givenGroups configuredOk
+  configured-below =
+      numbers-below (recordsIn 2 (s .groups)) (both (leb (length (s .groups) / 16) maxGroups) _ (both (eqb (length (s .groups)) (16 * (length (s .groups) / 16))) _ (groups-good s e) .1) .1)
 
   fresh-fits : Fits (length (s .ends)) (freshWorker s .board)
   unfolding freshBoard tagTaken
@@ -365,7 +333,7 @@ module _ (s : Setup) (e : creationCheck s ≡ 0) where
         named = configured-below;
         asked-few = omega arith;
         queue-few = omega arith;
-        rooms = record { some = names-some s e; tags-fit = refl; queue-fits = omega arith };
+        some = names-some s e;
       }
 
 -- ---- lists of calls
@@ -402,12 +370,7 @@ never-cut s e cs n = let r = go cs (freshWorker s) (sound-fresh s e) (fresh-fits
           rw (x .after-same) (ap (λ (l : List Worker). roomed n (after c W) ∷ l) (r .1)),
         )
 
--- Creation keeps all groups that it is given.
-pub setups-whole : SetupsWhole
-unfolding SetupsWhole
-setups-whole s e = all-configured s e
-
--- The lists of every round are whole, and so are the lists that steps leave.
+-- There is room for the list of every round, and for all that steps tell.
 pub steps-whole : StepsWhole
 unfolding StepsWhole
 steps-whole s e cs = each-fit s e WholeStep (λ c W v f. whole-call (s .options) (namesOf (s .names) (s .ends)) (length (s .ends)) 0 W v f (names-few s e) c) cs

@@ -9,7 +9,7 @@ use Rattle.histories.specs.Events.{Each}
 use Rattle.histories.specs.Histories.{atEach}
 use Rattle.checks.specs.Creation.{Setup, creationCheck}
 use Rattle.capi.specs.Creation.{freshWorker}
-use Rattle.turns.specs.Calls.{Call, tier, load, steps, write, stop, lookState, lookStats, lookCounts, lookGroups, lookTable, lookPanel, lookTag, toldBy, after}
+use Rattle.turns.specs.Calls.{Call, tier, load, steps, write, stop, look, toldBy, after}
 use Rattle.turns.specs.Demand.{Moment, moment}
 
 -- Of a call on an engine, if it is a step that answers a read-back and leaves the outcome to be taken: of each tag that the results cover, the result kept is the one that came.
@@ -25,13 +25,7 @@ BackWhole m = go (m .call)
         → (i : ℕ) → i < length (W .board .asked) → resultIn (W .board .back) i ≡ resultIn list i
     go (write tag kind word) = Unit {0}
     go stop = Unit {0}
-    go lookState = Unit {0}
-    go lookStats = Unit {0}
-    go lookCounts = Unit {0}
-    go (lookGroups out) = Unit {0}
-    go (lookTable out) = Unit {0}
-    go (lookPanel out) = Unit {0}
-    go (lookTag tag) = Unit {0}
+    go (look l) = Unit {0}
 
 unfoldable pub BacksWhole : Type 0
 BacksWhole = (s : Setup) → creationCheck s ≡ 0 → (cs : List Call) → Each (atEach after moment cs (freshWorker s)) BackWhole

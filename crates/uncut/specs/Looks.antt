@@ -15,7 +15,7 @@ use Rattle.replies.specs.Worker.{Worker}
 use Rattle.capi.specs.Creation.{freshWorker}
 use Rattle.checks.specs.Creation.{Setup, creationCheck}
 use Rattle.capi.specs.Looks.{groupCells}
-use Rattle.turns.specs.Calls.{Call, tier, load, steps, write, stop, lookState, lookStats, lookCounts, lookGroups, lookTable, lookPanel, lookTag, Answer, listIs, answer, after}
+use Rattle.turns.specs.Calls.{Call, tier, load, steps, write, stop, look, lookState, lookStats, lookCounts, lookGroups, lookTable, lookPanel, lookTag, Answer, listIs, answer, after}
 use Rattle.turns.specs.Demand.{Moment, moment}
 
 -- so many, and what is left in the lent list
@@ -52,13 +52,13 @@ WholeLook m = go (m .call)
     go (steps clock wall kind number message list out) = Unit {0}
     go (write tag kind word) = Unit {0}
     go stop = Unit {0}
-    go lookState = Unit {0}
-    go lookStats = Unit {0}
-    go lookCounts = Unit {0}
-    go (lookGroups out) = (length (groupsIn W) ≤ 16) × (16 ≤ length out / 40 → answer (lookGroups out) W ≡ all (length (groupsIn W)) (overBytes out (cellBytes (groupCells W))))
-    go (lookTable out) = (length (orderIn W) ≤ rowsIn W) × (rowsIn W ≤ maxNames) × (maxNames ≤ length out / 16 → answer (lookTable out) W ≡ all (length (orderIn W)) (overBytes out (cellBytes (records (rowCells (W .board)) (orderIn W)))))
-    go (lookPanel out) = (length (panelIn W) ≤ panelRoom (rowsIn W)) × (rowsIn W ≤ maxNames) × (panelRoom maxNames ≤ length out → answer (lookPanel out) W ≡ all (length (panelIn W)) (panelIn W ++ drop (length (panelIn W)) out))
-    go (lookTag tag) = Unit {0}
+    go (look lookState) = Unit {0}
+    go (look lookStats) = Unit {0}
+    go (look lookCounts) = Unit {0}
+    go (look (lookGroups out)) = (length (groupsIn W) ≤ 16) × (16 ≤ length out / 40 → answer (look (lookGroups out)) W ≡ all (length (groupsIn W)) (overBytes out (cellBytes (groupCells W))))
+    go (look (lookTable out)) = (length (orderIn W) ≤ rowsIn W) × (rowsIn W ≤ maxNames) × (maxNames ≤ length out / 16 → answer (look (lookTable out)) W ≡ all (length (orderIn W)) (overBytes out (cellBytes (records (rowCells (W .board)) (orderIn W)))))
+    go (look (lookPanel out)) = (length (panelIn W) ≤ panelRoom (rowsIn W)) × (rowsIn W ≤ maxNames) × (panelRoom maxNames ≤ length out → answer (look (lookPanel out)) W ≡ all (length (panelIn W)) (panelIn W ++ drop (length (panelIn W)) out))
+    go (look (lookTag tag)) = Unit {0}
 
 unfoldable pub LooksWhole : Type 0
 LooksWhole = (s : Setup) → creationCheck s ≡ 0 → (cs : List Call) → Each (atEach after moment cs (freshWorker s)) WholeLook

@@ -1,5 +1,5 @@
--- Rule 8: the version of a controller's tag table, and what a change of it or a connect does.
-use mathlib.Core.Bool.{Bool, true, false, not, _&&_, _||_, cond}
+-- Rule 8: what a change of the version or a connect does.
+use mathlib.Core.Bool.{Bool, false, not, _&&_, _||_, cond}
 use mathlib.Core.List.{List, [], _∷_}
 use Prim.Native.Nat.{ℕ, suc}
 use lib.Dec.{eqb}
@@ -11,27 +11,8 @@ use Rattle.table.specs.declared.tag.Description.{Description}
 use Rattle.table.specs.declared.tag.Description.the-variants.{Unknown}
 use Rattle.table.specs.declared.tag.Tag.{Tag}
 use Rattle.settings.specs.Settings.{settingIn}
-use Rattle.versions.specs.declared.version.Version.{Version}
-use Rattle.versions.specs.declared.version.Version.the-variants.{Null, Is}
-
-abbrev pub isNull : Version → Bool
-isNull Null = true
-isNull (Is n) = false
-
--- Rule 8: whether the version changed, from old to new
-abbrev pub isChanged : Version → Version → Bool
-isChanged Null Null = false
-isChanged Null (Is b) = true
-isChanged (Is a) Null = true
-isChanged (Is a) (Is b) = not (eqb a b)
-
--- Rule 8: a version change from non-null counts a reload
-abbrev pub isReloaded : Version → Version → Bool
-isReloaded old new = isChanged old new && not (isNull old)
-
--- two words: 0 for null, and the number
-abbrev pub versionFrom : ℕ → ℕ → Version
-versionFrom known number = cond (eqb known 0) Null (Is number)
+use Rattle.heads.specs.Version.{isChanged}
+use Rattle.heads.specs.declared.version.Version.{Version}
 
 -- Rule 8: the missing mark cleared
 abbrev pub markCleared : Timing → Timing

@@ -4,12 +4,12 @@ ghost use Rattle.board.specs.Layout.{IsBoard};
 ghost use Rattle.board.specs.Board.{Holds, tagAt, boardIn, withTag, withRecords};
 ghost use Rattle.versions.specs.Versions.{takenAt, tableTaken, takesSettings, versionTable};
 use super::tag::tag_taken;
-use super::version::Version;
-use super::version::is_changed;
 use board::starts::tags_in;
 use board::tag::is_bit;
 use board::tag::put_tag;
 use board::tag::tag_of;
+use heads::version::Version;
+use heads::version::is_changed;
 use settings::setting::setting_at;
 
 fn take_at(b: &mut [u8], settings: &[u8], k: usize, changed: bool)

@@ -1,4 +1,3 @@
 // Rule 8: what a version answer changes.
 pub mod check;
 pub mod tag;
-pub mod version;

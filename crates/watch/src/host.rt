@@ -2,7 +2,7 @@
 // reading is lost, and so is every attempt to connect again.
 use memory::cells::put_cell;
 use replies::reply::Reply;
-use worker::checks::Answer;
+use step_checks::awaiting::Answer;
 
 const TAGS: usize = 4;
 

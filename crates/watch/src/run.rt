@@ -10,11 +10,11 @@ use capi::calls::wz_set_tier;
 use capi::calls::wz_step;
 use capi::creation::wz_create;
 use changes::Change;
+use heads::options::Options;
 use lent::changes::CHANGE;
 use names::directory::MAX_NAMES;
 use replies::reply::Reply;
-use rounds::tick::Options;
-use worker::checks::Answer;
+use step_checks::awaiting::Answer;
 
 // The bytes of an engine of four names.
 const MEMORY: usize = 4206;

@@ -1,3 +1,2 @@
--- Laws of what an answer comes to, and of a step.
-pub mod AnswerLaws
+-- Laws of a step.
 pub mod StepLaws

@@ -8,7 +8,7 @@ use lib.Ieee.{binary64, le, round as rounded}
 use lib.ListN.{length, take}
 use Rattle.values.specs.declared.value.Value.the-variants.{Null}
 use Rattle.rounds.specs.Round.{Round}
-use Rattle.versions.specs.Versions.{isReloaded}
+use Rattle.heads.specs.Version.{isReloaded}
 use Rattle.queue.specs.Queue.{popped}
 use Rattle.writes.specs.ReadBack.{readBackTags, readBackFirst, keptBack}
 use Rattle.queue.specs.declared.Popped.{Popped}
@@ -22,13 +22,16 @@ use Rattle.heads.specs.declared.progress.Phase.{Phase}
 use Rattle.heads.specs.declared.progress.Phase.the-variants.{Begin, Connect, OpenVersion, Version, Read, Describe, Write, ReadBack, Wait, Backoff, OpenFailedTold, OpenMetaTold, ConnectedTold, MetaTold, ValuesTold, InfoTold, RefusedTold, LostTold, OutcomeTold, BackTold, FailedTold, StaleTold, DisconnectedTold, ConnectingTold, Stopped}
 use Rattle.board.specs.Board.{withAsked}
 use Rattle.lent.specs.Lent.{cellBytes, tagBytes}
-use Rattle.readings.specs.Changes.{appliedTo, staledIn, changesIn}
+use Rattle.readings.specs.Changes.{appliedTo, changesIn}
+use Rattle.stale.specs.Stale.{staledIn}
 use Rattle.descriptions.specs.Descriptions.{describing}
 use Rattle.replies.specs.Reply as reply
 use Rattle.replies.specs.Worker.{Worker, At, Told, tell, asks, withBoard, phased, linked, stated, tallied, goesOn}
 use Rattle.replies.specs.Losing.{isEmpty, failing, ended, backingOff, disconnected, staling, down, top}
 use Rattle.cycles.specs.Polling.{elapsed, remaining, polls, waiting, idle, tail, resume, writingOf, writing, checking, reading, roundAt, withWorked, worked, polled, poll, lastly, finished}
-use Rattle.worker.specs.Answers.{Answer, stepCheck, connected, reconnecting, opened, numberOf, versioned, openVersion, roundVersion, results, descriptions, written, readBack, backApplied, waited, backedOff, connectAnswered, taken, handled, clocked, stepped, step}
+use Rattle.step_checks.specs.Awaited.{Answer, stepCheck}
+use Rattle.step_answers.specs.Answers.{connected, reconnecting, opened, numberOf, versioned, openVersion, roundVersion, results, descriptions, written, readBack, backApplied, waited, backedOff, connectAnswered}
+use Rattle.worker.specs.Steps.{taken, handled, clocked, stepped, step}
 
 -- what is told is no refusal
 pub record Plain (T : Told) : Type 0 where
@@ -107,8 +110,9 @@ polled-plain : (W : Worker) (at : At) (R : Round) → Plain (polled W at R)
 unfolding polled
 polled-plain W at R =
     let next = withWorked W at R in
-    let asked = tell (phased next Read) (reply.read (length (R .list))) (tagBytes (R .list)) in
-    worked-plain (cond (isEmpty (R .list)) (reading next at) asked) R (both (isEmpty (R .list)) (reading next at) asked (reading-plain next at) (told _ refl))
+    let list = next .board .asked in
+    let asked = tell (phased next Read) (reply.read (length list)) (tagBytes list) in
+    worked-plain (cond (isEmpty list) (reading next at) asked) R (both (isEmpty list) (reading next at) asked (reading-plain next at) (told _ refl))
 
 poll-plain : (W : Worker) (at : At) → Plain (poll W at)
 unfolding poll
@@ -164,7 +168,7 @@ unfolding written
 written-plain W a =
     let k = W .head .progress .tag in
     let B = W .board in
-    let asked = take (B .askedRoom) (readBackTags (B .table .words) k) in
+    let asked = take (B .table .room) (readBackTags (B .table .words) k) in
     let refused = asks W RefusedTold (reply.wasRefused k (a .number) (a .message)) in
     let lost = asks W LostTold (reply.wasLost k) in
     both (eqb (a .kind) 7) (tell (phased (withBoard W (withAsked B asked)) ReadBack) (reply.readBack (length asked)) (tagBytes asked)) (cond (eqb (a .kind) 8) refused lost) (told _ refl)

@@ -1,2 +1,2 @@
 -- Rule 9: the steps of an engine.
-pub mod Answers
+pub mod Steps

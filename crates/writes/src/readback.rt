@@ -1,8 +1,7 @@
 // What is read after a write that went through.
 ghost use mathlib.Core.Path.{_≡_};
-ghost use lib.ListN.{take};
 ghost use Rattle.board.specs.Layout.{IsBoard};
-ghost use Rattle.board.specs.Board.{Holds, boardIn, withAsked};
+ghost use Rattle.board.specs.Board.{Holds, boardIn, asking};
 ghost use Rattle.writes.specs.ReadBack.{readBackTags, readBackValue, readBackFirst, keptBack};
 use board::tag::word_of;
 use board::tag_lists::clear_asked;
@@ -19,7 +18,7 @@ use values::value::Value;
 // no bit, 1 for a bit without its word, and otherwise the word's tag and 2.
 pub fn ask_read_back(b: &mut [u8], k: u16)
     requires { ⌜ IsBoard (now b) ⌝ }
-    ensures { λ _. ⌜ Holds (now (b .exit)) (withAsked (boardIn (now (b .entry))) (take (boardIn (now (b .entry)) .askedRoom) (readBackTags (boardIn (now (b .entry)) .table .words) k))) ⌝ }
+    ensures { λ _. ⌜ Holds (now (b .exit)) (asking (boardIn (now (b .entry))) (readBackTags (boardIn (now (b .entry)) .table .words) k)) ⌝ }
 {
     clear_asked(b);
     push_asked(b, k);

@@ -2,20 +2,19 @@
 use borrow.Author.Needs.{needs}
 use mathlib.Core.Path.{_≡_, refl, ap, sym, _∙_}
 use mathlib.Core.Bool.{Bool}
-use mathlib.Core.List.{List, []}
+use mathlib.Core.List.{List}
 use mathlib.Core.Logic.{⊎-elim}
 use Prim.Native.Nat.{ℕ, _≤_, _<_, _-_, min}
 use native.Mathlib.Nat.{mod-eq-of-lt}
 use native.Mathlib.Omega.{arith}
 use denote.Ref.{now}
 use lib.ListN.{length, getD, take}
-use lib.Seq.{take-nil}
 use Rattle.lists.specs.Keep.{keep, upTo}
 use Rattle.lists.proofs.KeepLaws.{length-upTo, upTo-at}
 use Rattle.tags.specs.Lists.{pushed}
-use Rattle.tags.proofs.CollectLaws.{clipped-yes, clipped-no, clipped-all}
+use Rattle.tags.proofs.CollectLaws.{collect-yes, collect-no, collect-all}
 use Rattle.board.specs.Board.{Board, Holds, boardIn, tagAt, withAsked}
-use Rattle.board.proofs.BoardLaws.{tags-counted, tag-read}
+use Rattle.board.proofs.BoardLaws.{tags-counted, tag-read, room-is}
 use Rattle.descriptions.specs.Descriptions.{isAsked}
 use Rattle.descriptions.proofs.ask_wanted.Statement.{statement}
 use Rattle.descriptions.proofs.ask_wanted.Tie as tie
@@ -26,7 +25,7 @@ test B k = isAsked (tagAt (B .table) k)
 
 -- the board B once the tags below k of n were looked at
 abbrev looked : Board → ℕ → ℕ → Board
-looked B n k = withAsked B (take (B .askedRoom) (keep (test B) (take k (upTo n))))
+looked B n k = withAsked B (keep (test B) (take k (upTo n)))
 
 abbrev Inv-loop : tie.InvT-loop
 Inv-loop b₀ n k₀ b k = (k ≤ n) × ((length b ≡ length b₀) × Holds b (looked (boardIn b₀) n k))
@@ -45,8 +44,7 @@ unfolding keep
 loop-holds c =
     let clear = c .before .before .before .before .clear-asked in
     let B = boardIn (clear .last .0) in
-    let none : B .asked ≡ take (B .askedRoom) [] = ap (λ (X : Board). X .asked) (clear .ensures .board) ∙ sym (take-nil (B .askedRoom)) in
-    (omega arith, (refl, record { still = clear .ensures .still; board = ap (λ (z : List ℕ). withAsked B z) none }))
+    (omega arith, (refl, record { still = clear .ensures .still; board = ap (λ (X : Board). withAsked B (X .asked)) (clear .ensures .board) }))
 
 table-of-requires : tie.Need-table-of-requires Inv-loop μ-loop
 table-of-requires c κs = search needs
@@ -73,8 +71,9 @@ loop-again c =
     let B = boardIn (clear .last .0) in
     let n = c .before .before .before .before .before .before .tags-in .result in
     let p = test B in
-    let o = take (B .askedRoom) (keep p (take (l .k) (upTo n))) in
+    let o = keep p (take (l .k) (upTo n)) in
     let done = l .inv .1 .1 in
+    let fits : length (upTo n) ≤ B .table .room = omega (arith, length-upTo n, c .before .before .before .before .before .before .tags-in .ensures, room-is (clear .last .0) (clear .ensures .still)) in
     let h : l .k < length (upTo n) = omega (arith, length-upTo n) in
     let small : l .k < 65536 = omega (arith, c .before .before .before .before .before .before .tags-in .ensures, clear .ensures .still) in
     let here : l .k ≡ getD (upTo n) (l .k) 0 = sym (upTo-at n (l .k) (omega arith)) in
@@ -89,16 +88,16 @@ loop-again c =
               still = w .2 .ensures .still;
               board =
                   w .2 .ensures .board
-                  ∙ ap (λ (X : Board). withAsked X (pushed (X .askedRoom) (X .asked) (l .k))) (done .board)
-                  ∙ ap (λ (z : ℕ). withAsked B (pushed (B .askedRoom) o z)) (sym (mod-eq-of-lt small))
-                  ∙ ap (λ (z : List ℕ). withAsked B z) (clipped-yes p (upTo n) (B .askedRoom) (l .k) o refl (l .k) 0 h small here (asked ∙ w .0 .taken));
+                  ∙ ap (λ (X : Board). withAsked X (pushed (X .table .room) (X .asked) (l .k))) (done .board)
+                  ∙ ap (λ (z : ℕ). withAsked B (pushed (B .table .room) o z)) (sym (mod-eq-of-lt small))
+                  ∙ ap (λ (z : List ℕ). withAsked B z) (collect-yes p (upTo n) (l .k) o refl (B .table .room) (l .k) 0 h fits small here (asked ∙ w .0 .taken));
             }),
           ))
           (λ w. (
             ap length (w .1) ∙ l .inv .1 .0,
             rw (w .1) (record {
               still = done .still;
-              board = done .board ∙ ap (λ (z : List ℕ). withAsked B z) (clipped-no p (upTo n) (B .askedRoom) (l .k) o refl (l .k) 0 h here (asked ∙ w .0 .left));
+              board = done .board ∙ ap (λ (z : List ℕ). withAsked B z) (collect-no p (upTo n) (l .k) o refl (l .k) 0 h here (asked ∙ w .0 .left));
             }),
           ))
           (c .if1 .came),
@@ -114,16 +113,15 @@ returns c =
     let old = boardIn (now (c .before .before .before .before .before .before .before .before .before .args .b)) in
     let B = boardIn (clear .last .0) in
     let n = c .before .before .tags-in .result in
-    let o = take (B .askedRoom) (keep (test B) (take (l .k) (upTo n))) in
     let same : length (B .table .tags) ≡ length (old .table .tags) = ap (λ (X : Board). length (X .table .tags)) (clear .ensures .board) in
     let all : n ≡ min (length (old .table .tags)) 65536 = omega (arith, c .before .before .tags-in .ensures, tags-counted (clear .last .0) (clear .ensures .still), clear .ensures .still, same) in
     record {
       still = l .inv .1 .1 .still;
       board =
           l .inv .1 .1 .board
-          ∙ ap (λ (z : List ℕ). withAsked B z) (clipped-all (test B) (upTo n) (B .askedRoom) (l .k) o refl (omega (arith, length-upTo n)))
-          ∙ ap (λ (X : Board). withAsked X (take (X .askedRoom) (keep (test X) (upTo n)))) (clear .ensures .board)
-          ∙ ap (λ (m : ℕ). withAsked old (take (old .askedRoom) (keep (test old) (upTo m)))) all;
+          ∙ ap (λ (z : List ℕ). withAsked B z) (collect-all (test B) (upTo n) (l .k) (keep (test B) (take (l .k) (upTo n))) refl (omega (arith, length-upTo n)))
+          ∙ ap (λ (X : Board). withAsked X (keep (test X) (upTo n))) (clear .ensures .board)
+          ∙ ap (λ (m : ℕ). withAsked old (keep (test old) (upTo m))) all;
     }
 
 pub ask-wanted-spec : {M : Type 1} → statement M

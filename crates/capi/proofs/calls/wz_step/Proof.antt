@@ -4,7 +4,8 @@ use Rattle.capi.proofs.CallLaws.{alien-step, refused-step, done-step}
 use Rattle.capi.specs.Calls.{answerOf, SteppedBoard}
 use Rattle.capi.specs.Memory.{sizeCheck, workerIn}
 use Rattle.replies.specs.Worker.{at, worker}
-use Rattle.worker.specs.Answers.{Answer, step}
+use Rattle.step_checks.specs.Awaited.{Answer}
+use Rattle.worker.specs.Steps.{step}
 use Rattle.engine.specs.declared.Engine.{Engine}
 use Rattle.replies.specs.declared.reply.Said.{Said}
 use mathlib.Core.List.{List}

@@ -1,8 +1,8 @@
 -- `capi::calls::wz_write` meets its contract.
 use Rattle.capi.proofs.Laws.{count-small}
 use native.Mathlib.Omega.{arith}
-use Rattle.checks.proofs.Laws.{write-passed}
-use Rattle.capi.proofs.CallLaws.{alien-call, refused-call, done-call}
+use Rattle.checks.proofs.Laws.{write-passed, write-room}
+use Rattle.capi.proofs.CallLaws.{alien-call, refused-call, done-call, queued-last}
 use Rattle.checks.specs.Calls.{writeCheck}
 use Rattle.capi.specs.Calls.{wrote}
 use Rattle.capi.specs.Memory.{workerIn}
@@ -51,9 +51,10 @@ returns-3 c =
     let a = c .before .before .before .before .before .before .before .before .before .before .before .args in
     let bs = now (a .mem) in
     let v = c .before .before .before .before .before .before .before .value-from in
+    let short = write-room (workerIn bs) (a .tag) _ (sym (c .before .before .before .before .before .write-check .ensures) ∙ c .before .before .before .before .if2 .left) in
     done-call bs _ _ _ (sym (c .before .before .before .before .before .before .before .before .before .size-check .ensures) ∙ c .before .before .before .before .before .before .before .before .if1 .left)
     (sym (c .before .before .before .before .if2 .left) ∙ c .before .before .before .before .before .write-check .ensures ∙ ap (λ (x : Value). writeCheck (workerIn bs) (a .tag) x) (v .ensures))
-    (c .before .before .push-write .ensures ∙ ap (λ (x : Value). wrote (workerIn bs) (a .tag) x) (v .ensures))
+    (c .before .before .push-write .ensures ∙ queued-last (workerIn bs) _ short ∙ ap (λ (x : Value). wrote (workerIn bs) (a .tag) x) (v .ensures))
     (search needs)
 
 pub wz-write-spec : {M : Type 1} → statement M

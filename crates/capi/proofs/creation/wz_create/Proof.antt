@@ -10,7 +10,7 @@ use Rattle.replies.specs.Worker.{Worker, worker}
 use Rattle.checks.specs.Creation.{Setup}
 use Rattle.capi.specs.Memory.{memorySize, sizeCheck, IsEngine}
 use Rattle.capi.proofs.Laws.{size-right}
-use Rattle.capi.proofs.CallLaws.{no-names, many-names, other-size, not-made, is-made}
+use Rattle.capi.proofs.CallLaws.{no-names, many-names, other-size, not-made, is-made, all-configured}
 use borrow.Author.Needs.{needs}
 use Rattle.capi.proofs.creation.wz_create.Statement.{statement}
 use Rattle.capi.proofs.creation.wz_create.Tie as tie
@@ -60,9 +60,10 @@ same-length c = search needs
 returns-5 : tie.Need-returns-5
 returns-5 c =
     let s = c .before .before .before .before .before .before .before .before .before .before .before .before .before .before .before .before .before .before .before .before in
+    let accepted = sym (c .before .before .before .before .before .before .before .before .before .before .creation-check .ensures) ∙ c .before .before .before .before .before .before .before .before .before .if4 .left in
     is-made (setup s) (now (s .args .mem)) (c .before .before .before .before .before .before .before .before .before .before .before .before .before .before .if1 .left) (omega (arith, c .before .before .before .before .before .before .before .before .before .before .before .before .before .if2 .left)) (c .before .before .before .before .before .before .before .before .before .before .creation-check .result)
     (c .before .before .before .before .before .before .before .before .before .before .before .if3 .left ∙ c .before .before .before .before .before .before .before .before .before .before .before .before .memory-size .ensures) (c .before .before .before .before .before .before .before .before .before .before .creation-check .ensures) _ (c .before .before .before .before .before .before .before .before .before .if4 .left)
-    (c .before .before .put-head .ensures ∙ ap₂ {C = Worker} worker (c .before .before .before .before .before .before .before .before .fresh .ensures) (c .before .before .before .before .before .before .create .ensures))
+    (c .before .before .put-head .ensures ∙ ap₂ {C = Worker} worker (c .before .before .before .before .before .before .before .before .fresh .ensures) (c .before .before .before .before .before .before .create .ensures ∙ all-configured (setup s) accepted))
     (search needs)
 
 pub wz-create-spec : {M : Type 1} → statement M

@@ -6,7 +6,8 @@ use mir.Syntax.{w64}
 use mir.Facts.{toZ-ofZ}
 use lib.ListN.{length}
 use Rattle.replies.specs.Worker.{At, at, worker}
-use Rattle.worker.specs.Answers.{answer, step}
+use Rattle.step_checks.specs.Awaited.{answer}
+use Rattle.worker.specs.Steps.{step}
 use Rattle.capi.specs.Memory.{workerIn}
 use Rattle.capi.proofs.CallLaws.{step-put}
 use Rattle.capi.proofs.Laws.{engine-room, engine-board}

@@ -69,16 +69,17 @@ returns c =
     ∙ ap (withProgress cycled) (c .before .before .before .before .before .before .before .before .before .before .before .before .with-round .ensures
     ∙ (ap (λ (x : Float). withRound (a .e .progress) (a .clock) x (p .result .boundary)) (p .ensures .tick-is) ∙ ap (withRound (a .e .progress) (a .clock) (R .tick)) (p .ensures .boundary-is)))) in
     let after = withWorked W t R in
+    let list = after .board .asked in
     let left : worker (c .before .before .before .before .before .before .before .before .before .before .with-progress .result) (boardIn (p .last .0)) ≡ after =
     ap (λ (e : Engine). worker e (boardIn (p .last .0))) next ∙ ap (worker (withProgress cycled round)) (p .ensures .holds .board) in
-    let asked : boardIn (p .last .0) .asked ≡ R .list = ap (λ (X : Board). X .asked) (p .ensures .holds .board) in
-    let count : c .before .before .before .before .before .before .before .before .asked-count .result ≡ length (R .list) = c .before .before .before .before .before .before .before .before .asked-count .ensures ∙ ap (length {A = ℕ}) asked in
-    let told = tell (phased after Read) (reply.read (length (R .list))) (tagBytes (R .list)) in
+    let asked : boardIn (p .last .0) .asked ≡ list = ap (λ (X : Board). X .asked) (p .ensures .holds .board) in
+    let count : c .before .before .before .before .before .before .before .before .asked-count .result ≡ length list = c .before .before .before .before .before .before .before .before .asked-count .ensures ∙ ap (length {A = ℕ}) asked in
+    let told = tell (phased after Read) (reply.read (length list)) (tagBytes list) in
     let fit : SFits w64 (a .wall) = c .before .before .before .before .before .before .before .before .before .before .before .before .before .before .before .before .before .before .before .fits .wall in
     let so-far = worker (c .before .before .before .before .before .before .before .before .before .before .with-progress .result) (boardIn (p .last .0)) in
     let y = c .before .before .before .before .reading in
-    let test : isEmpty (R .list) ≡ true = empty-is {A = ℕ} (R .list) (sym count ∙ c .before .before .before .before .before .before .before .if1 .taken) in
-    let inner = cond (isEmpty (R .list)) (reading after t) told in
+    let test : isEmpty list ≡ true = empty-is {A = ℕ} list (sym count ∙ c .before .before .before .before .before .before .before .if1 .taken) in
+    let inner = cond (isEmpty list) (reading after t) told in
     worked-done inner R (y .result) (y .last .0) (now (a .out)) (y .last .1 .0)
     (done-is (reading so-far t) inner (y .result) (y .last .0) (now (a .out)) (y .last .1 .0)
     (ap (λ (X : Worker). reading X t) left ∙ sym (ap (λ (b : Bool). cond b (reading after t) told) test))
@@ -116,14 +117,15 @@ returns-2 c =
     ∙ ap (withProgress cycled) (c .before .before .before .before .before .before .before .before .before .before .before .before .with-round .ensures
     ∙ (ap (λ (x : Float). withRound (a .e .progress) (a .clock) x (p .result .boundary)) (p .ensures .tick-is) ∙ ap (withRound (a .e .progress) (a .clock) (R .tick)) (p .ensures .boundary-is)))) in
     let after = withWorked W t R in
+    let list = after .board .asked in
     let left : worker (c .before .before .before .before .before .before .before .before .before .before .with-progress .result) (boardIn (p .last .0)) ≡ after =
     ap (λ (e : Engine). worker e (boardIn (p .last .0))) next ∙ ap (worker (withProgress cycled round)) (p .ensures .holds .board) in
-    let asked : boardIn (p .last .0) .asked ≡ R .list = ap (λ (X : Board). X .asked) (p .ensures .holds .board) in
-    let count : c .before .before .before .before .before .before .before .before .asked-count .result ≡ length (R .list) = c .before .before .before .before .before .before .before .before .asked-count .ensures ∙ ap (length {A = ℕ}) asked in
-    let told = tell (phased after Read) (reply.read (length (R .list))) (tagBytes (R .list)) in
+    let asked : boardIn (p .last .0) .asked ≡ list = ap (λ (X : Board). X .asked) (p .ensures .holds .board) in
+    let count : c .before .before .before .before .before .before .before .before .asked-count .result ≡ length list = c .before .before .before .before .before .before .before .before .asked-count .ensures ∙ ap (length {A = ℕ}) asked in
+    let told = tell (phased after Read) (reply.read (length list)) (tagBytes list) in
     let q = c .before .before .before .before .put-asked in
-    let test : isEmpty (R .list) ≡ false = some-is {A = ℕ} (R .list) (λ e. c .before .before .before .before .before .before .before .if1 .left (count ∙ e)) in
-    let inner = cond (isEmpty (R .list)) (reading after t) told in
+    let test : isEmpty list ≡ false = some-is {A = ℕ} list (λ e. c .before .before .before .before .before .before .before .if1 .left (count ∙ e)) in
+    let inner = cond (isEmpty list) (reading after t) told in
     worked-done inner R (c .phased .result) (p .last .0) (now (a .out)) (q .last .1 .0)
     (done-is told inner (c .phased .result) (p .last .0) (now (a .out)) (q .last .1 .0) (sym (ap (λ (b : Bool). cond b (reading after t) told) test))
     (record {

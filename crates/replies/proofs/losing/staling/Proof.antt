@@ -7,7 +7,8 @@ use Prim.Native.Nat.{ℕ}
 use denote.Ref.{now}
 use lib.ListN.{length}
 use Rattle.board.specs.Board.{boardIn}
-use Rattle.readings.specs.Changes.{staledIn, changesIn}
+use Rattle.readings.specs.Changes.{changesIn}
+use Rattle.stale.specs.Stale.{staledIn}
 use Rattle.heads.specs.declared.progress.Phase.the-variants.{StaleTold}
 use Rattle.replies.specs.Reply as reply
 use Rattle.replies.specs.Worker.{Told, worker, tell, phased}

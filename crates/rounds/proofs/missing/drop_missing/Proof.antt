@@ -24,7 +24,7 @@ abbrev test : Board → Float → ℕ → Bool
 test B clock k = not (isHeldBack (tagAt (B .table) k) clock)
 
 abbrev kept : Board → Float → List ℕ → List ℕ
-kept B clock xs = take (B .askedRoom) (keep (test B clock) xs)
+kept B clock xs = take (B .table .room) (keep (test B clock) xs)
 
 abbrev Inv-loop : tie.InvT-loop
 Inv-loop b₀ wanted clock n i₀ b i =
@@ -45,7 +45,7 @@ loop-holds c =
     let start = c .before .before .before .clear-asked in
     let B = boardIn (now (a .b)) in
     let xs = listIn (now (a .wanted)) in
-    let none = sym (take-nil (B .askedRoom)) ∙ ap (take (B .askedRoom)) (collect-none (test B (a .clock)) xs) in
+    let none = sym (take-nil (B .table .room)) ∙ ap (take (B .table .room)) (collect-none (test B (a .clock)) xs) in
     let cleared = start .ensures .board in
     (omega arith, (refl, record { still = start .ensures .still; board = cleared ∙ ap (λ (l : List ℕ). withAsked B l) none ∙ sym (ap (λ (X : Board). withAsked X (kept X (a .clock) (take 0 xs))) cleared) }))
 
@@ -76,7 +76,7 @@ loop-again c =
     let B = boardIn (c .before .before .before .before .before .before .before .before .before .clear-asked .last .0) in
     let xs = listIn (now (a .wanted)) in
     let p = test B (a .clock) in
-    let n = B .askedRoom in
+    let n = B .table .room in
     let o = kept B (a .clock) (take (l .i) xs) in
     let done = l .inv .1 .1 .board in
     let small : k .result < 65536 = rw (k .ensures) (list-small (now (a .wanted)) (l .i)) in
@@ -88,7 +88,7 @@ loop-again c =
             record {
               still = rw (w .5) (w .2 .ensures .still);
               board = ap boardIn (w .5) ∙ w .2 .ensures .board
-                  ∙ ap (λ (X : Board). withAsked X (pushed (X .askedRoom) (X .asked) (k .result % 65536))) done
+                  ∙ ap (λ (X : Board). withAsked X (pushed (X .table .room) (X .asked) (k .result % 65536))) done
                   ∙ ap (λ (r : List ℕ). withAsked B r) (clipped-yes p xs n (l .i) o refl (k .result) 0 (omega arith) small (k .ensures) (tested ∙ w .0 .taken));
             },
           ))
@@ -116,7 +116,7 @@ returns c =
       still = l .inv .1 .1 .still;
       board = l .inv .1 .1 .board
           ∙ ap (λ (X : Board). withAsked X (kept X (a .clock) (take (l .i) xs))) (c .before .before .before .before .before .clear-asked .ensures .board)
-          ∙ ap (λ (r : List ℕ). withAsked B r) (clipped-all (test B (a .clock)) xs (B .askedRoom) (l .i) (kept B (a .clock) (take (l .i) xs)) refl (omega arith));
+          ∙ ap (λ (r : List ℕ). withAsked B r) (clipped-all (test B (a .clock)) xs (B .table .room) (l .i) (kept B (a .clock) (take (l .i) xs)) refl (omega arith));
     }
 
 pub drop-missing-spec : {M : Type 1} → statement M

@@ -2,14 +2,18 @@
 use mathlib.Core.Path.{_≡_, ap, ap₂, sym, _∙_}
 use mathlib.Core.Bool.{false}
 use mathlib.Core.List.{List, map}
-use Prim.Native.Nat.{ℕ}
+use Prim.Native.Nat.{ℕ, min}
+use native.Mathlib.Omega.{arith}
 use denote.Ref.{now}
+use lib.ListN.{length, take, length-append}
+use lib.Seq.{take-all}
+use Rattle.lists.specs.Keep.{keep}
+use Rattle.lists.proofs.KeepLaws.{length-keep, length-upTo}
 use Rattle.tags.specs.Lists.{listIn, room}
-use Rattle.tags.proofs.ListLaws.{list-short}
 use Rattle.table.specs.declared.tag.Tag.{Tag}
-use Rattle.board.specs.Board.{Board, boardIn, withRecords, withAsked}
-use Rattle.board.proofs.BoardLaws.{tags-read}
-use Rattle.rounds.specs.Added.{anyAdded, withAddedTags, settled}
+use Rattle.board.specs.Board.{Board, boardIn, withRecords, asking}
+use Rattle.board.proofs.BoardLaws.{tags-read, tags-counted}
+use Rattle.rounds.specs.Added.{anyAdded, isAdded, withAddedTags, settled}
 use Rattle.table.specs.Table.{byRank}
 use Rattle.rounds.specs.Missing.{notHeldBack}
 use Rattle.rounds.proofs.AddedLaws.{none-listed, none-settled}
@@ -43,20 +47,35 @@ same-length-2 c = search needs
 
 returns : tie.Need-returns
 returns c =
-    let a = c .before .before .before .before .before .before .before .before .before .before .before .before .before .before .before .before .before .before .before .before .before .args in
+    let s = c .before .before .before .before .before .before .before .before .before .before .before .before .before .before .before .before .before .before .before .before .before in
+    let a = s .args in
     let B = boardIn (now (a .b)) in
     let tags = B .table .tags in
     let t = c .before .before .before .before .before .before .before .before .before .before .before .before .before .table-of2 in
     let add = c .before .before .before .before .before .before .before .before .before .before .before .list-added in
     let settle = c .before .before .settle-in in
-    let wanted : listIn (add .last .1 .0) ≡ withAddedTags (room (now (a .wanted))) tags (listIn (now (a .wanted))) (byRank tags) =
+    let before = listIn (now (a .wanted)) in
+    let listed : listIn (add .last .1 .0) ≡ take (room (now (a .wanted))) (withAddedTags tags before (byRank tags)) =
     add .ensures ∙ rw (tags-read (now (a .b)) (now (t .result)) (t .ensures))
+    in
+    let wanted : listIn (add .last .1 .0) ≡ withAddedTags tags before (byRank tags) =
+    listed
+    ∙ take-all (room (now (a .wanted))) (withAddedTags tags before (byRank tags))
+    (omega (
+      arith,
+      length-append before (keep (isAdded tags before) (byRank tags)),
+      length-keep (isAdded tags before) (byRank tags),
+      length-upTo (min (length tags) 65536),
+      tags-counted (now (a .b)) (s .pre .0),
+      s .pre .0 .1 .1,
+      s .pre .1,
+    ))
     in
     record {
       still = settle .ensures .still;
       board = settle .ensures .board
           ∙ ap (λ (X : Board). withRecords X (map settled (X .table .tags))) (c .before .before .before .before .before .before .drop-missing .ensures .board)
-          ∙ ap (λ (l : List ℕ). withAsked (withRecords B (map settled tags)) (notHeldBack (B .askedRoom) tags l (a .clock))) wanted;
+          ∙ ap (λ (l : List ℕ). asking (withRecords B (map settled tags)) (notHeldBack tags l (a .clock))) wanted;
     }
 
 drop-missing-requires-2 : tie.Need-drop-missing-requires-2
@@ -80,8 +99,7 @@ returns-2 c =
     record {
       still = drop .ensures .still;
       board = drop .ensures .board
-          ∙ ap₂ (λ (ts : List Tag) (l : List ℕ). withAsked (withRecords B ts) (notHeldBack (B .askedRoom) tags l (a .clock)))
-          (none-settled tags none) (none-listed tags (room wanted) (listIn wanted) (byRank tags) none (list-short wanted));
+          ∙ ap₂ (λ (ts : List Tag) (l : List ℕ). asking (withRecords B ts) (notHeldBack tags l (a .clock))) (none-settled tags none) (none-listed tags (listIn wanted) (byRank tags) none);
     }
 
 pub list-round-spec : {M : Type 1} → statement M

@@ -1,7 +1,8 @@
 -- `versions::check::check_version` meets its contract.
 use mathlib.Core.Path.{_≡_, refl, ap, sym, _∙_}
 use mathlib.Core.Bool.{Bool, true, false}
-use Rattle.versions.specs.Versions.{isChanged, takesSettings, versionTable}
+use Rattle.heads.specs.Version.{isChanged}
+use Rattle.versions.specs.Versions.{takesSettings, versionTable}
 use borrow.Author.Needs.{needs}
 use Rattle.versions.proofs.check.check_version.Statement.{statement}
 use Rattle.versions.proofs.check.check_version.Tie as tie

@@ -8,7 +8,8 @@ use Rattle.board.specs.Board.{boardIn}
 use Rattle.replies.specs.Worker.{worker}
 use Rattle.replies.specs.Losing.{down}
 use Rattle.replies.proofs.DoneLaws.{done-is}
-use Rattle.worker.specs.Answers.{answer, opened, connectAnswered}
+use Rattle.step_checks.specs.Awaited.{answer}
+use Rattle.step_answers.specs.Answers.{opened, connectAnswered}
 use borrow.Author.Needs.{needs}
 use Rattle.worker.proofs.steps.connect.Statement.{statement}
 use Rattle.worker.proofs.steps.connect.Tie as tie

@@ -15,7 +15,9 @@ use Rattle.board.specs.Board.{boardIn}
 use Rattle.replies.specs.Worker.{Worker, At, at, worker}
 use Rattle.replies.specs.Losing.{top}
 use Rattle.replies.proofs.DoneLaws.{done-is}
-use Rattle.worker.specs.Answers.{Answer, answer, connectAnswered, openVersion, roundVersion, results, descriptions, written, readBack, waited, backedOff, taken, handled}
+use Rattle.step_checks.specs.Awaited.{Answer, answer}
+use Rattle.step_answers.specs.Answers.{connectAnswered, openVersion, roundVersion, results, descriptions, written, readBack, waited, backedOff}
+use Rattle.worker.specs.Steps.{taken, handled}
 use borrow.Author.Needs.{needs}
 use Rattle.worker.proofs.steps.handled.Statement.{statement}
 use Rattle.worker.proofs.steps.handled.Tie as tie

@@ -14,7 +14,8 @@ use Rattle.replies.specs.Reply as reply
 use Rattle.replies.specs.Worker.{At, at, worker, tell, Done}
 use Rattle.replies.proofs.DoneLaws.{done-is, quiet-done}
 use Rattle.cycles.specs.Polling.{finished}
-use Rattle.worker.specs.Answers.{answer, stepCheck, handled, stepped, step}
+use Rattle.step_checks.specs.Awaited.{answer, stepCheck}
+use Rattle.worker.specs.Steps.{handled, stepped, step}
 use Rattle.worker.proofs.StepLaws.{step-refused, step-accepted, stepped-plain}
 use Rattle.board.proofs.BoardLaws.{still-board}
 use borrow.Author.Needs.{needs}

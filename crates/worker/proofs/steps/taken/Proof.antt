@@ -18,7 +18,8 @@ use Rattle.replies.specs.Worker.{Worker, At, at, worker, asks}
 use Rattle.replies.specs.Losing.{backingOff, disconnected, staling, down, top}
 use Rattle.replies.proofs.DoneLaws.{done-is, quiet-done}
 use Rattle.cycles.specs.Polling.{polls, writing, checking, reading}
-use Rattle.worker.specs.Answers.{connected, backApplied, taken}
+use Rattle.step_answers.specs.Answers.{connected, backApplied}
+use Rattle.worker.specs.Steps.{taken}
 use borrow.Author.Needs.{needs}
 use Rattle.worker.proofs.steps.taken.Statement.{statement}
 use Rattle.worker.proofs.steps.taken.Tie as tie

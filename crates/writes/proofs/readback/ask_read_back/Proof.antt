@@ -40,7 +40,7 @@ returns c =
     let code = c .before .before .before .before .before .word-of in
     let second = c .before .before .push-asked2 in
     let B2 = boardIn (first .last .0) in
-    let put = ap (λ (n : ℕ). withAsked B2 (pushed (B2 .askedRoom) (B2 .asked) (n - 2))) (code .ensures) in
+    let put = ap (λ (n : ℕ). withAsked B2 (pushed (B2 .table .room) (B2 .asked) (n - 2))) (code .ensures) in
     record {
       still = second .ensures .still;
       board =

@@ -1,0 +1,2 @@
+-- Laws of rule 7: a table marked stale.
+pub mod StaleLaws

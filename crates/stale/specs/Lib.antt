@@ -1,0 +1,2 @@
+-- Rule 7: stale.
+pub mod Stale

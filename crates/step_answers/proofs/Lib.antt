@@ -1,0 +1,2 @@
+-- Laws of what an answer comes to.
+pub mod AnswerLaws

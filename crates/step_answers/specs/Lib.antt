@@ -1,0 +1,2 @@
+-- Rule 9: what each answer of the host comes to.
+pub mod Answers

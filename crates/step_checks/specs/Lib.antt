@@ -1,0 +1,2 @@
+-- Rule 9: what a step waits for, and its checks.
+pub mod Awaited
