@@ -1,6 +1,8 @@
 // A values event as a lent run of records, tag beside entry: what the list of a step holds in cells, for callers in
-// Rattle. The core is covered; the functions over a lent run are thin, and proved by a law of `runs` or by hand. The one
-// at the end takes and gives the run by value, so that a caller is covered.
+// Rattle. The functions over a lent run are thin, and pass it to those of `runs`. The one at the end takes and gives the
+// run by value.
+#![tactic(auto)]
+
 ghost use Rattle.std.specs.Prelude.{◌≡◌, ◌≤◌, ◌<◌, min, get_or, take};
 ghost use Rattle.memory.specs.Cells.{cells_in};
 ghost use Rattle.names.specs.Directory.{max_names};
@@ -9,19 +11,20 @@ ghost use Rattle.changes.specs.Changes.{no_change, change_in, told};
 
 use memory::cells::cell;
 use names::directory::MAX_NAMES;
+use runs::{at, fill};
 use values::entry::{Entry, Quality};
 use values::error::Error;
 use values::value::Value;
 use words::entry::{EntryWords, entry_from};
 
-#[derive(Drop)]
+#[derive(Clone, Copy)]
 pub struct Change {
     pub tag: u16,
     pub entry: Entry,
 }
 
 // The first `n` of the items.
-#[derive(Drop)]
+#[derive(Clone, Copy)]
 struct Told {
     items: [Change; MAX_NAMES],
     n: usize,
@@ -88,15 +91,7 @@ fn fill_changes(out: &mut [Change], from: [Change; MAX_NAMES], n: usize) -> u32
     requires { n ≤ max_names }
     ensures { (result ≡ answer max_names 43 out.old) × (out.new ≡ filled max_names n from out.old) }
 {
-    if out.len() < MAX_NAMES {
-        return 43;
-    }
-    let mut i = 0;
-    while i < n {
-        out[i] = from[i];
-        i = i + 1;
-    }
-    0
+    fill(out, from, n, 43)
 }
 
 // The changes that a step told, n in all, from its list.
@@ -113,10 +108,7 @@ pub fn read_changes(out: &mut [Change], list: &[u8], n: usize) -> u32
 pub fn change_at(changes: &[Change], i: usize, none: Change) -> Change
     ensures { result ≡ get_or changes.now i none }
 {
-    if changes.len() <= i {
-        return none;
-    }
-    changes[i]
+    at(changes, i, none)
 }
 
 // A run by value, lent to `read_changes` and given back.

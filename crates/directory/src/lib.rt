@@ -1,7 +1,8 @@
 // The directory view: the lent names and the end places beside them, kept together. A tag's name is handed back as a
 // part of the buffer.
-// The borrow checker covers no function over such a struct, so each of these is proved by hand; they are thin, and the
-// work is done by covered functions of `names`. The functions at the end take plain slices, so that a caller is covered.
+// These functions are thin: the work is done by functions of `names`. The ones at the end take plain slices.
+#![tactic(auto)]
+
 ghost use Rattle.std.specs.Prelude.{◌≡◌, length};
 ghost use Rattle.names.specs.Directory.{names_of, name_at, directory_check, max_names, max_name_length};
 

@@ -14,14 +14,14 @@ use heads::stats::{Stats, stats_from, stats_words};
 use words::scalar::{float_of_word, word_of_flag, word_of_float};
 
 // The options and the cycle in words.
-#[derive(Drop)]
+#[derive(Clone, Copy)]
 struct OptionsWords {
     cycle: u64,
     period: u64,
     grace: u64,
 }
 
-#[derive(Drop)]
+#[derive(Clone, Copy)]
 struct CycleWords {
     begun: u64,
     last: u64,

@@ -11,7 +11,7 @@ use heads::progress::Progress;
 use heads::stats::Stats;
 
 // `clock` is the last reading accepted, `count` how many names the directory has.
-#[derive(Drop)]
+#[derive(Clone, Copy)]
 pub struct Engine {
     pub options: Options,
     pub cycle: Cycle,

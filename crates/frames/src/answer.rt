@@ -7,7 +7,7 @@ use crate::parts::list_at;
 pub const BEFORE: u8 = 0xa5;
 
 // What a call answered: `n` numbers, with 0 behind them; and where the recorded answer stands in its frame.
-#[derive(Drop)]
+#[derive(Clone, Copy)]
 pub struct Answered {
     pub at: usize,
     pub n: usize,
@@ -24,7 +24,7 @@ pub fn no_answer(frame: &[u8]) -> Answered {
 }
 
 // The bytes compared; or the number or the byte of the lent list that differs, what it is, and what was recorded.
-#[derive(Drop)]
+#[derive(Clone, Copy)]
 pub enum Found {
     Same(usize),
     Cell(usize, u64, u64),

@@ -4,7 +4,7 @@
 const CREATE: u8 = 1;
 
 // How far the replay has come; `here` counts the calls of the history.
-#[derive(Drop)]
+#[derive(Clone, Copy)]
 pub struct Counts {
     pub histories: u64,
     pub calls: u64,

@@ -5,7 +5,7 @@ use crate::numbers::four;
 
 // The bytes of a list. Where the frame ends before the list does it is empty, at the frame's end and not whole; and so is
 // then each list that is looked for behind it.
-#[derive(Drop)]
+#[derive(Clone, Copy)]
 pub struct Part {
     pub from: usize,
     pub end: usize,

@@ -4,7 +4,7 @@ ghost use Rattle.groups.specs.Groups.{fresh_group, group_read};
 
 // `rate` is the last recorded, in milliseconds. `last` is the clock time of its last round, if it is read, and `before`
 // that of the round before, if it was read again.
-#[derive(Drop)]
+#[derive(Clone, Copy)]
 pub struct Group {
     pub read: bool,
     pub again: bool,

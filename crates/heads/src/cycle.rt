@@ -1,7 +1,7 @@
 // How far the rounds of an engine have come.
 
 // The last boundary, if there was one, and the index of the next slice.
-#[derive(Drop)]
+#[derive(Clone, Copy)]
 pub struct Cycle {
     pub begun: bool,
     pub last: f64,

@@ -6,7 +6,7 @@ use super::version::{Version, version_from, version_words};
 use words::scalar::word_of_flag;
 
 // What the host is told. Stopped is not told; it comes with the end.
-#[derive(Drop)]
+#[derive(Clone, Copy)]
 pub enum State {
     Connecting,
     Connected,
@@ -15,7 +15,7 @@ pub enum State {
 }
 
 // `stopping`: a stop was asked for. `attempt` counts the connects that failed since one worked.
-#[derive(Drop)]
+#[derive(Clone, Copy)]
 pub struct Link {
     pub state: State,
     pub stopping: bool,
@@ -24,7 +24,7 @@ pub struct Link {
 }
 
 // A connection in words, as the head's row has it.
-#[derive(Drop)]
+#[derive(Clone, Copy)]
 pub struct LinkWords {
     pub state: u64,
     pub stopping: u64,

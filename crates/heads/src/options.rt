@@ -4,7 +4,7 @@ ghost use Rattle.heads.specs.Options.{cycle_ok, span_ok, options_check};
 
 // In seconds.
 #[repr(C)]
-#[derive(Drop)]
+#[derive(Clone, Copy)]
 pub struct Options {
     pub cycle: f64,
     pub period: f64,

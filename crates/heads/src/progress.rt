@@ -5,7 +5,7 @@ ghost use Rattle.heads.specs.Progress.{fresh_progress, phase_from, phase_number,
 use words::scalar::{float_of_word, word_of_flag, word_of_float};
 
 // What is waited for. The first ten are requests; those that end in Told are events to be taken.
-#[derive(Drop)]
+#[derive(Clone, Copy)]
 pub enum Phase {
     Begin,
     Connect,
@@ -35,7 +35,7 @@ pub enum Phase {
 }
 
 // Where the writing came from, and so where it goes on: the end of a round, the wait between rounds, or the stop.
-#[derive(Drop)]
+#[derive(Clone, Copy)]
 pub enum After {
     Tail,
     Idle,
@@ -43,7 +43,7 @@ pub enum After {
 }
 
 // The round in hand: when it started, its tick, and whether it is a boundary. `tag` is that of the write in hand.
-#[derive(Drop)]
+#[derive(Clone, Copy)]
 pub struct Progress {
     pub phase: Phase,
     pub after: After,
@@ -54,7 +54,7 @@ pub struct Progress {
 }
 
 // The same in words, as the head's row has it.
-#[derive(Drop)]
+#[derive(Clone, Copy)]
 pub struct ProgressWords {
     pub phase: u64,
     pub after: u64,

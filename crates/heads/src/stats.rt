@@ -6,7 +6,7 @@ use words::scalar::{float_of_word, int_of_word, word_of_flag, word_of_float, wor
 
 // `ms` is the last round's time, if one has ended (`timed`), `ts` its wall time, `tags` how many tags the last
 // round asked for.
-#[derive(Drop)]
+#[derive(Clone, Copy)]
 pub struct Stats {
     pub timed: bool,
     pub ms: f64,
@@ -18,7 +18,7 @@ pub struct Stats {
 }
 
 // The same in words, as the head's row has it.
-#[derive(Drop)]
+#[derive(Clone, Copy)]
 pub struct StatsWords {
     pub timed: u64,
     pub ms: u64,

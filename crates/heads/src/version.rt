@@ -3,7 +3,7 @@ ghost use Rattle.std.specs.Prelude.{◌≡◌};
 ghost use Rattle.heads.specs.Version.{is_null, is_changed, is_reloaded, version_from};
 
 // Null where the controller has none, or none is known yet.
-#[derive(Drop)]
+#[derive(Clone, Copy)]
 pub enum Version {
     Null,
     Is(u64),
@@ -11,7 +11,7 @@ pub enum Version {
 
 // known: 0 for null.
 #[repr(C)]
-#[derive(Drop)]
+#[derive(Clone, Copy)]
 pub struct VersionWords {
     pub known: u64,
     pub number: u64,

@@ -18,7 +18,7 @@ use names::directory::MAX_NAMES;
 use rounds::round::CycleTags;
 
 #[repr(C)]
-#[derive(Drop)]
+#[derive(Clone, Copy)]
 pub struct LeafCycle {
     pub last: f64,
     pub index: u64,
@@ -26,7 +26,7 @@ pub struct LeafCycle {
 }
 
 #[repr(C)]
-#[derive(Drop)]
+#[derive(Clone, Copy)]
 pub struct LeafRound {
     pub code: u64,
     pub tick: f64,

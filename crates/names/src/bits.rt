@@ -2,7 +2,7 @@
 ghost use Rattle.std.specs.Prelude.{◌≡◌, drop};
 ghost use Rattle.names.specs.Bits.{last_dot, all_digits, split_bit};
 
-#[derive(Drop)]
+#[derive(Clone, Copy)]
 pub enum Bit {
     Plain,
     Word(usize),

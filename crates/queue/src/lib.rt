@@ -9,14 +9,14 @@ use values::value::Value;
 use words::value::{value_from, value_words};
 
 // A write that waits.
-#[derive(Drop)]
+#[derive(Clone, Copy)]
 pub struct Write {
     pub tag: u16,
     pub value: Value,
 }
 
 // The Rust's `Option<WriteRequest>`.
-#[derive(Drop)]
+#[derive(Clone, Copy)]
 pub enum Popped {
     Nothing,
     Is(Write),

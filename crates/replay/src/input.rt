@@ -32,7 +32,7 @@ fn at_end() -> bool {
     io::read_full(STDIN_FILENO, &mut more) == 0
 }
 
-#[derive(Drop)]
+#[derive(Clone, Copy)]
 enum Next {
     On(Counts),
     End,

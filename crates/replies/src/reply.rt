@@ -10,7 +10,7 @@ use words::value::value_words;
 // `code` is 0, or the number of a refusal; then all else is 0. `count` is how many records the lent list has. `what` is the
 // state of a status, and of an outcome 0 where the write went through, 1 where the driver refused it, 2 where it was lost.
 #[repr(C)]
-#[derive(Drop)]
+#[derive(Clone, Copy)]
 pub struct Reply {
     pub code: u64,
     pub kind: u64,
@@ -25,7 +25,7 @@ pub struct Reply {
 }
 
 // The answer of a step, with the head that it leaves.
-#[derive(Drop)]
+#[derive(Clone, Copy)]
 pub struct Said {
     pub reply: Reply,
     pub head: Engine,

@@ -21,7 +21,7 @@ use board::parts::table_of;
 use heads::cycle::Cycle;
 use heads::options::Options;
 
-#[derive(Drop)]
+#[derive(Clone, Copy)]
 pub struct CycleTags {
     pub tick: f64,
     pub boundary: bool,

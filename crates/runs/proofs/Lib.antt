@@ -1,5 +1,3 @@
--- Laws for proofs of functions over lent runs.
-pub mod At
-pub mod Fill
+-- Laws on lent runs.
 pub mod Rows
 pub mod Tests

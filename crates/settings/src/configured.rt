@@ -7,7 +7,7 @@ use super::range::is_group;
 use memory::cells::{cell, put_cell};
 
 // A group and its rate in milliseconds.
-#[derive(Drop)]
+#[derive(Clone, Copy)]
 pub struct Configured {
     pub number: u8,
     pub rate: u32,

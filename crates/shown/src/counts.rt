@@ -5,7 +5,7 @@ ghost use Rattle.board.specs.Board.{board_in};
 ghost use Rattle.shown.specs.Looks.{counts_of, no_counts};
 
 #[repr(C)]
-#[derive(Drop)]
+#[derive(Clone, Copy)]
 pub struct CountsLook {
     pub code: u64,
     pub tier1: u64,

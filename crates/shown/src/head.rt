@@ -8,7 +8,7 @@ use heads::version::Version;
 
 // The state, and the version: known is 0 where it is null.
 #[repr(C)]
-#[derive(Drop)]
+#[derive(Clone, Copy)]
 pub struct StateLook {
     pub code: u64,
     pub state: u64,
@@ -18,7 +18,7 @@ pub struct StateLook {
 
 // timed is 0 where no round has ended yet; then ms and ts are 0.
 #[repr(C)]
-#[derive(Drop)]
+#[derive(Clone, Copy)]
 pub struct StatsLook {
     pub code: u64,
     pub timed: u64,

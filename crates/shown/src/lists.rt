@@ -14,7 +14,7 @@ pub const PANEL: usize = 1 + 2 * MAX_NAMES;
 
 // How many records, or bytes, a lent list has.
 #[repr(C)]
-#[derive(Drop)]
+#[derive(Clone, Copy)]
 pub struct ListLook {
     pub code: u64,
     pub count: u64,

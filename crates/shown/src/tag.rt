@@ -10,7 +10,7 @@ use words::entry::held_words;
 // A tag's tier, 0 for none; its cached entry, held being 0 where there is none; and its description, 0 where it is not
 // known, 1 where it has none, and otherwise the number and 2. has_g and g are cells of the entry that nothing uses yet.
 #[repr(C)]
-#[derive(Drop)]
+#[derive(Clone, Copy)]
 pub struct TagLook {
     pub code: u64,
     pub tier: u64,

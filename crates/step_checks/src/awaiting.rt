@@ -12,7 +12,7 @@ use lent::changes::CHANGE;
 use names::directory::MAX_NAMES;
 
 // An answer of the host, but for its list: the kind, the number of a version or of an error, and the number of a message.
-#[derive(Drop)]
+#[derive(Clone, Copy)]
 pub struct Answer {
     pub kind: u64,
     pub number: u64,

@@ -27,7 +27,7 @@ fn take_line(s: State, line: &[u8], buffer: &mut [u8], ends: &mut [u32], mem: &m
 }
 
 // The state, and how many bytes of the next line there are.
-#[derive(Drop)]
+#[derive(Clone, Copy)]
 enum Step {
     On(State, usize),
     End,

@@ -4,7 +4,7 @@ use heads::options::Options;
 
 // stage: 0 before the options, 1 while names come, 2 from the first `s` or `c` on. `used` is how many bytes of names
 // there are, `clock` the last time accepted.
-#[derive(Drop)]
+#[derive(Clone, Copy)]
 pub struct State {
     pub stage: u8,
     pub count: usize,
@@ -15,7 +15,7 @@ pub struct State {
 }
 
 // A line that is refused ends the listing.
-#[derive(Drop)]
+#[derive(Clone, Copy)]
 pub enum Next {
     On(State),
     End,

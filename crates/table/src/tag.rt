@@ -5,7 +5,7 @@ ghost use Rattle.table.specs.Tag.{no_grace, no_timing, no_settings, fresh_tag};
 use values::entry::Held;
 
 // A tag that left tier 1 stays in tier 2 up to the deadline, and then goes to the tier `after`, 0 for none.
-#[derive(Drop)]
+#[derive(Clone, Copy)]
 pub struct Grace {
     pub on: bool,
     pub deadline: f64,
@@ -13,7 +13,7 @@ pub struct Grace {
 }
 
 // When the tag was last listed in tier 1, and, if it is missing, when to ask for it again.
-#[derive(Drop)]
+#[derive(Clone, Copy)]
 pub struct Timing {
     pub read: bool,
     pub last: f64,
@@ -22,7 +22,7 @@ pub struct Timing {
 }
 
 // What the host sets for a tag: the deadband, a group with its rate in milliseconds, and whether it has a description.
-#[derive(Drop)]
+#[derive(Clone, Copy)]
 pub struct Settings {
     pub band: f64,
     pub grouped: bool,
@@ -32,7 +32,7 @@ pub struct Settings {
 }
 
 // What is known of a tag's description: nothing, that it has none, or its number.
-#[derive(Drop)]
+#[derive(Clone, Copy)]
 pub enum Description {
     Unknown,
     Nothing,
@@ -40,7 +40,7 @@ pub enum Description {
 }
 
 // `tier` is 0 for none. `added`: new in tier 2 and in no round yet. `wants`: its description is to be asked for.
-#[derive(Drop)]
+#[derive(Clone, Copy)]
 pub struct Tag {
     pub tier: u8,
     pub grace: Grace,

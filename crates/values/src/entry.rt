@@ -5,7 +5,7 @@ ghost use Rattle.values.specs.Entry.{quality_number, is_good, quality_of, kept, 
 use super::error::{Error, ErrorKind, same_error};
 use super::value::{Value, same_value};
 
-#[derive(Drop)]
+#[derive(Clone, Copy)]
 pub enum Quality {
     Good,
     Bad,
@@ -14,7 +14,7 @@ pub enum Quality {
 }
 
 // A cache entry; `t` is the wall time of the reading in milliseconds.
-#[derive(Drop)]
+#[derive(Clone, Copy)]
 pub struct Entry {
     pub value: Value,
     pub quality: Quality,
@@ -23,14 +23,14 @@ pub struct Entry {
 }
 
 // The Rust's `Option<Entry>`.
-#[derive(Drop)]
+#[derive(Clone, Copy)]
 pub enum Held {
     None,
     Is(Entry),
 }
 
 // What the host read of one tag; where there is an error the value does not count.
-#[derive(Drop)]
+#[derive(Clone, Copy)]
 pub struct TagResult {
     pub value: Value,
     pub error: Error,

@@ -2,7 +2,7 @@
 ghost use Rattle.std.specs.Prelude.{◌≡◌};
 ghost use Rattle.values.specs.Error.{kind_number, same_tag_error, same_error};
 
-#[derive(Drop)]
+#[derive(Clone, Copy)]
 pub enum ErrorKind {
     NotFound,
     Access,
@@ -10,14 +10,14 @@ pub enum ErrorKind {
 }
 
 // The message is the host's number for a text.
-#[derive(Drop)]
+#[derive(Clone, Copy)]
 pub struct TagError {
     pub kind: ErrorKind,
     pub message: u32,
 }
 
 // The Rust's `Option<TagError>`.
-#[derive(Drop)]
+#[derive(Clone, Copy)]
 pub enum Error {
     None,
     Is(TagError),

@@ -10,13 +10,13 @@ const TAGS: usize = 4;
 pub const RESULTS: usize = 128;
 
 // `rounds` is how many readings were asked for.
-#[derive(Drop)]
+#[derive(Clone, Copy)]
 pub struct Host {
     pub clock: f64,
     pub rounds: u64,
 }
 
-#[derive(Drop)]
+#[derive(Clone, Copy)]
 struct Result {
     kind: u64,
     word: u64,

@@ -11,7 +11,7 @@ use values::entry::{Entry, Held, Quality};
 
 // held: 0 where there is no entry, and otherwise the quality's number and 1.
 #[repr(C)]
-#[derive(Drop)]
+#[derive(Clone, Copy)]
 pub struct EntryWords {
     pub held: u64,
     pub kind: u64,

@@ -6,7 +6,7 @@ ghost use Rattle.words.specs.Error.{kind_from, error_from, error_words_of};
 use values::error::{Error, ErrorKind, TagError};
 
 // kind: 0 for none, and otherwise the kind's number and 1.
-#[derive(Drop)]
+#[derive(Clone, Copy)]
 pub struct ErrorWords {
     pub kind: u64,
     pub message: u64,

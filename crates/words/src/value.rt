@@ -6,7 +6,7 @@ use super::scalar::{float_of_word, int_of_word, word_of_float, word_of_int};
 use values::value::Value;
 
 // kind: 0 null, 1 bool, 2 integer, 3 float.
-#[derive(Drop)]
+#[derive(Clone, Copy)]
 pub struct ValueWords {
     pub kind: u64,
     pub word: u64,

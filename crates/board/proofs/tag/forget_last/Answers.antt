@@ -1,0 +1,13 @@
+-- `board::tag::forget_last` meets its contract.
+use Rattle.table.specs.declared.tag.Tag.{Tag}
+use Rattle.table.specs.Table.{without_last}
+use Rattle.board.proofs.BoardLaws.{tag_put}
+use Rattle.board.proofs.tag.forget_last.Goals as goal
+
+pub returns : goal.returns
+returns c =
+    let a = c.args in
+    let from = c.table_start-start in
+    let to = c.order_start-end in
+    let put = c.forget_last in
+    tag_put a.b.now put.new.t c.requires from.result to.result from.ensures to.ensures a.k (λ (x : Tag). without_last x) put.auto.t put.ensures

@@ -1,0 +1,12 @@
+-- `board::tag::put_tag` meets its contract.
+use Rattle.table.specs.declared.tag.Tag.{Tag}
+use Rattle.board.proofs.BoardLaws.{tag_put}
+use Rattle.board.proofs.tag.put_tag.Goals as goal
+
+pub returns : goal.returns
+returns c =
+    let a = c.args in
+    let from = c.table_start-start in
+    let to = c.order_start-end in
+    let put = c.put_tag in
+    tag_put a.b.now put.new.t c.requires from.result to.result from.ensures to.ensures a.k (λ (x : Tag). a.x) put.auto.t put.ensures

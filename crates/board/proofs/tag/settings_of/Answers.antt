@@ -1,0 +1,11 @@
+-- `board::tag::settings_of` meets its contract.
+use mathlib.Core.Path.{ap, ◌∙◌}
+use Rattle.table.specs.declared.tag.Tag.{Tag}
+use Rattle.board.proofs.BoardLaws.{tag_read}
+use Rattle.board.proofs.tag.settings_of.Goals as goal
+
+pub returns : goal.returns
+returns c =
+    let a = c.args in
+    let t = c.table_of in
+    c.settings_of.ensures ∙ ap (λ (x : Tag). x.settings) (tag_read a.b.now t.result.now a.k t.ensures)

@@ -1,0 +1,12 @@
+-- `fields::timing_of` meets its contract.
+use mathlib.Core.Path.{ap, sym}
+use Rattle.table.specs.declared.tag.Tag.{Tag}
+use Rattle.table.proofs.RowLaws.{table_at}
+use Rattle.table.specs.Row.{tag_from}
+use Rattle.fields.proofs.timing_of.Goals as goal
+
+pub returns : goal.returns
+unfolding tag_from
+returns c =
+    let a = c.args in
+    rw (c.timing_from.ensures, c.row_cell-retry.ensures, c.row_cell-missing.ensures, c.row_cell-last.ensures, c.row_cell-read.ensures) (sym (ap (λ (x : Tag). x.timing) (table_at a.t.now a.k)))

@@ -1,0 +1,12 @@
+-- `heads::link::state_from` meets its contract.
+use borrow.Author.Tests.{ne_eqb}
+use Rattle.heads.proofs.link.state_from.Goals as goal
+
+pub returns-in-0 : goal.returns-in-0
+returns-in-0 c = simp c.in-0.is
+
+pub returns-in-1 : goal.returns-in-1
+returns-in-1 c = simp c.in-1.is
+
+pub returns-in-2 : goal.returns-in-2
+returns-in-2 c = simp c.in-2.is

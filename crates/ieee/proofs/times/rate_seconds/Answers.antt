@@ -1,0 +1,8 @@
+-- `times::rate_seconds` meets its contract.
+use Rattle.std.proofs.Common.{refl}
+use lib.Ieee.{of_bits, of_int}
+use Rattle.ieee.proofs.times.rate_seconds.Goals as goal
+
+pub returns : goal.returns
+unfolding of_bits of_int
+returns c = refl

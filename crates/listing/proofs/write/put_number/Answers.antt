@@ -1,0 +1,54 @@
+-- `listing::write::put_number` meets its contract.
+use mathlib.Core.Path.{◌≡◌, refl, sym, ◌∙◌}
+use native.Mathlib.Omega.{arith}
+use lib.ListN.{length, length-set}
+use Rattle.listing.specs.Write.{decimal_of}
+use Rattle.listing.proofs.Decimal.{tenth, decimal_some, width_more}
+use Rattle.listing.proofs.Placed.{written_fits, written_not, after_fits, after_not, number_more, number_one}
+use Rattle.listing.proofs.write.put_number.Goals as goal
+
+pub returns-then-out-digits : goal.returns-then-out-digits
+returns-then-out-digits c =
+    let a = c.args in
+    let w : c.width-digits.result ≡ length (decimal_of a.n) = c.width-digits.ensures in
+    record { value = sym (after_not a.out.now a.at (decimal_of a.n) (omega arith)); out_after = sym (written_not a.out.now a.at (decimal_of a.n) (omega arith)) }
+
+pub returns-then-out-digits-2 : goal.returns-then-out-digits-2
+returns-then-out-digits-2 c =
+    let a = c.args in
+    let w : c.width-digits.result ≡ length (decimal_of a.n) = c.width-digits.ensures in
+    record { value = sym (after_not a.out.now a.at (decimal_of a.n) (omega arith)); out_after = sym (written_not a.out.now a.at (decimal_of a.n) (omega arith)) }
+
+pub loop-rest-init : goal.loop-rest-init
+loop-rest-init c =
+    let w = c.width-digits.ensures in
+    (refl, omega arith, omega arith, refl)
+
+pub overflow_sub-i : goal.overflow_sub-i
+overflow_sub-i c =
+    let l = c.loop-rest in
+    omega (arith, decimal_some l.rest)
+
+pub bounds-out-i : goal.bounds-out-i
+bounds-out-i c =
+    let l = c.loop-rest in
+    omega (arith, decimal_some l.rest)
+
+pub loop-rest-smaller : goal.loop-rest-smaller
+loop-rest-smaller c = tenth c.loop-rest.rest c.loop-rest-test.true
+
+pub loop-rest-preserved : goal.loop-rest-preserved
+loop-rest-preserved c =
+    let l = c.loop-rest in
+    let a = c.args in
+    let w = width_more l.rest c.loop-rest-test.true in (
+      rw length-set l.invariant.0,
+      omega arith,
+      rw length-set (omega arith),
+      number_more l.out a.at l.rest c.digit.result c.digit.ensures l.i c.loop-rest-test.true l.invariant.1 l.invariant.2 ∙ l.invariant.3,
+    )
+
+pub bounds-out-at : goal.bounds-out-at
+bounds-out-at c =
+    let l = c.loop-rest in
+    omega (arith, decimal_some l.rest)

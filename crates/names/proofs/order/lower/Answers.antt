@@ -1,0 +1,16 @@
+-- Each answer is the case of `lower_of` that the tests came to.
+use borrow.Author.Tests.{le-leb, lt-leb}
+use Rattle.names.specs.Order.{lower_of}
+use Rattle.names.proofs.order.lower.Goals as goal
+
+pub returns-then-b-lt65 : goal.returns-then-b-lt65
+unfolding lower_of
+returns-then-b-lt65 c = simp (lt-leb _ _ c.if-b-lt65.true)
+
+pub returns-then-b-gt90 : goal.returns-then-b-gt90
+unfolding lower_of
+returns-then-b-gt90 c = simp (le-leb _ _ c.if-b-lt65.false, lt-leb _ _ c.if-b-gt90.true)
+
+pub returns : goal.returns
+unfolding lower_of
+returns c = simp (le-leb _ _ c.if-b-lt65.false, le-leb _ _ c.if-b-gt90.false)

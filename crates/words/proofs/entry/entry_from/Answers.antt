@@ -1,0 +1,14 @@
+-- `words::entry::entry_from` meets its contract.
+use mathlib.Core.Path.{◌∙◌}
+use mir.Val.{SFits}
+use mir.Syntax.{w64}
+use mir.Facts.{to_z-of_z}
+use Rattle.words.specs.Entry.{entry_from}
+use borrow.Author.Rules.{rules}
+use Rattle.words.proofs.entry.entry_from.Goals as goal
+
+pub returns : goal.returns
+unfolding entry_from
+returns c =
+    let fit : SFits w64 c.int_of_word-t.result = search rules in
+    simp (to_z-of_z fit ∙ c.int_of_word-t.ensures, c.error_from-error.ensures, c.quality_from-quality.ensures, c.value_from-value.ensures)
