@@ -13,7 +13,7 @@ use Rattle.table.specs.Table.{table_in}
 use Rattle.apply.specs.Apply.{is_stopped, applied_at, sent_at}
 use Rattle.apply.proofs.ApplyLaws.{applied_stopped, applied_on, known_on, new_on}
 use Rattle.apply.proofs.reading.apply_at.Goals as goal
-use Rattle.apply.proofs.reading.apply_at.Goals.{else-cache, then-cache}
+use Rattle.apply.proofs.reading.apply_at.Goals.{else-cache, then-cache+else-polled}
 
 pub returns-then-tier_of-eq0 : goal.returns-then-tier_of-eq0
 unfolding applied_at sent_at
@@ -54,6 +54,6 @@ returns c =
     let two = c.cache in
     let three = c.publish in
     let on : is_stopped a.polled old.result e.result ≡ false =
-    elim c.if-cache.branch [ then-cache w ↦ known_on a.polled _ w.1.left | else-cache w ↦ new_on a.polled _ (sym two.ensures.1 ∙ w.left) ] in
+    elim c.if-cache.branch [ then-cache+else-polled w ↦ known_on a.polled _ w.if-polled.false | else-cache w ↦ new_on a.polled _ (sym two.ensures.1 ∙ w.if-cache.false) ] in
     applied_on tags a.k a.r a.start a.t a.polled tiered old.result e.result (table_in one.new.table) (table_in two.new.table) old.ensures read one.ensures two.ensures.0
     (table_in three.new.table) three.result on three.ensures.0 three.ensures.1

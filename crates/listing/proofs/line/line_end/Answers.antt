@@ -1,10 +1,7 @@
 -- `listing::line::line_end` meets its contract.
-use mathlib.Core.Path.{refl, sym, ◌∙◌}
+use mathlib.Core.Path.{sym, ◌∙◌}
 use Rattle.listing.proofs.Lines.{feed_end, feed_here, feed_later}
 use Rattle.listing.proofs.line.line_end.Goals as goal
-
-pub loop-i-init : goal.loop-i-init
-loop-i-init c = refl
 
 pub returns-then-s-i-eq10 : goal.returns-then-s-i-eq10
 returns-then-s-i-eq10 c =

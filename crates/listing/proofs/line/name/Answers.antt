@@ -1,10 +1,7 @@
 -- `listing::line::name` meets its contract.
-use mathlib.Core.Path.{refl, sym, ◌∙◌}
+use mathlib.Core.Path.{sym, ◌∙◌}
 use Rattle.listing.proofs.Lines.{name_end, name_space, name_byte}
 use Rattle.listing.proofs.line.name.Goals as goal
-
-pub loop-i-init : goal.loop-i-init
-loop-i-init c = refl
 
 pub returns-then-line-i-eq32 : goal.returns-then-line-i-eq32
 returns-then-line-i-eq32 c =

@@ -13,3 +13,27 @@ pub returns-then-out-at : goal.returns-then-out-at
 returns-then-out-at c =
     let a = c.args in
     record { value = sym (after_not a.out.now a.at (32 ∷ decimal_of a.n) (omega arith)); out_after = sym (written_not a.out.now a.at (32 ∷ decimal_of a.n) (omega arith)) }
+
+pub returns-then-end-at : goal.returns-then-end-at
+returns-then-end-at c =
+    let a = c.args in
+    let d = c.put_number-end.ensures in
+    let l : length a.out.now < a.at + 1 + length (decimal_of a.n) = no_room a.out.now (a.at + 1) (decimal_of a.n) (decimal_some a.n) (sym d.value ∙ c.if-end-at.true) in
+    record {
+      value = sym (after_not a.out.now a.at (32 ∷ decimal_of a.n) (omega arith));
+      out_after = d.out_after ∙ written_not a.out.now (a.at + 1) (decimal_of a.n) l ∙ sym (written_not a.out.now a.at (32 ∷ decimal_of a.n) (omega arith));
+    }
+
+pub returns : goal.returns
+returns c =
+    let a = c.args in
+    let d = c.put_number-end.ensures in
+    let l : a.at + 1 + length (decimal_of a.n) ≤ length a.out.now = had_room a.out.now (a.at + 1) (decimal_of a.n) (λ e. c.if-end-at.false (d.value ∙ e)) in
+    let e = after_fits a.out.now (a.at + 1) (decimal_of a.n) l in
+    let f = after_fits a.out.now a.at (32 ∷ decimal_of a.n) (omega arith) in
+    record {
+      value = omega (arith, d.value);
+      out_after = ap (λ (o : List ℕ). set o a.at 32) (d.out_after ∙ written_fits a.out.now (a.at + 1) (decimal_of a.n) l)
+          ∙ placed_first a.out.now a.at 32 (decimal_of a.n) (omega arith)
+          ∙ sym (written_fits a.out.now a.at (32 ∷ decimal_of a.n) (omega arith));
+    }

@@ -1,7 +1,7 @@
 -- `listing::write::put_head` meets its contract.
 use mathlib.Core.Path.{◌≡◌, ap, ◌∙◌}
 use mathlib.Core.List.{List, ◌++◌}
-use mathlib.Core.Bool.{cond}
+use mathlib.Core.Bool.{Bool, cond}
 use Prim.Native.Nat.{ℕ}
 use native.Mathlib.Omega.{arith}
 use lib.ListN.{length-append}
@@ -12,28 +12,16 @@ use Rattle.listing.proofs.Joined.{later, head_fields}
 use Rattle.listing.proofs.write.put_head.Goals as goal
 
 -- the line after its first field
-one : (s : tie.After-put-number) → (s.put-number.result ≡ 0 → ⊥)
-    → Holds s.before.before.before.args.out.now s.put-number.new.0 s.put-number.result (decimal_of s.before.before.before.args.ms)
-one s n = holds_more (holds_none s.before.before.before.args.out.now) s.put-number.new.0 (decimal_of s.before.before.before.args.ms) _ s.put-number.ensures.0 s.put-number.ensures.1 n
+one : (out o : List ℕ) (ms r : ℕ) → r ≡ after out 0 (decimal_of ms) → o ≡ written out 0 (decimal_of ms) → (r ≡ 0 → ⊥)
+    → Holds out o r (decimal_of ms)
+one out o ms r p q n = holds_more (holds_none out) o (decimal_of ms) r p q n
 
-abbrev marked : tie.After-put-field → List ℕ
-marked s = later (cond s.before.before.before.before.before.before.before.before.before.args.boundary 1 0)
-
-after_mark : (s : tie.After-put-field) → s.put-field.result ≡ after s.before.before.before.before.before.before.put-number.new.0 s.before.before.before.before.before.before.put-number.result (marked s)
-after_mark s =
-    let o = s.before.before.before.before.before.before.put-number in
-    s.put-field.ensures.0 ∙ ap (λ (n : ℕ). after o.new.0 o.result (later n)) s.before.mark.ensures
-
--- and after its second
-two : (s : tie.After-put-field) → (s.put-field.result ≡ s.before.before.before.before.before.before.put-number.result → ⊥)
-    → Holds s.before.before.before.before.before.before.before.before.before.args.out.now
-    s.put-field.new.0
-    s.put-field.result
-    (decimal_of s.before.before.before.before.before.before.before.before.before.args.ms ++ marked s)
-two s n =
-    let s0 = s.before.before.before.before.before.before in
-    holds_more (one s0 s.before.before.before.if1.false) s.put-field.new.0 (marked s) s.put-field.result (after_mark s)
-    (s.put-field.ensures.1 ∙ ap (λ (n : ℕ). written s0.put-number.new.0 s0.put-number.result (later n)) s.before.mark.ensures) n
+-- and after its second, the mark m of b
+two : (out o o' : List ℕ) (ms m r r' : ℕ) (b : Bool) → Holds out o r (decimal_of ms) → m ≡ cond b 1 0
+    → r' ≡ after o r (later m) → o' ≡ written o r (later m) → (r' ≡ r → ⊥)
+    → Holds out o' r' (decimal_of ms ++ later (cond b 1 0))
+two out o o' ms m r r' b h e p q n =
+    holds_more h o' (later (cond b 1 0)) r' (p ∙ ap (λ (k : ℕ). after o r (later k)) e) (q ∙ ap (λ (k : ℕ). written o r (later k)) e) n
 
 pub returns-then-first-eq0 : goal.returns-then-first-eq0
 returns-then-first-eq0 c =
@@ -47,18 +35,31 @@ returns-then-first-eq0 c =
 pub returns-then-second-first : goal.returns-then-second-first
 returns-then-second-first c =
     let a = c.args in
+    let ys = later (cond a.boundary 1 0) in
     let zs = later a.count in
-    let l = holds_full (one c c.if-first-eq0.false) (marked c) _ (after_mark c) c.if-second-first.true (omega arith) in
-    rw (head_fields a.ms a.boundary a.count) (put_not a.out.now _ (decimal_of a.ms ++ marked c ++ zs) (omega (arith, length-append (decimal_of a.ms ++ marked c) zs)))
+    let p = c.put_number-first in
+    let h = one a.out.now p.new.out a.ms p.result p.ensures.value p.ensures.out_after c.if-first-eq0.false in
+    let l = holds_full h ys _ (c.put_field-second.ensures.value ∙ ap (λ (k : ℕ). after p.new.out p.result (later k)) c.mark.ensures) c.if-second-first.true (omega arith) in
+    rw (head_fields a.ms a.boundary a.count) (put_not a.out.now _ (decimal_of a.ms ++ ys ++ zs) (omega (arith, length-append (decimal_of a.ms ++ ys) zs)))
 
 pub returns-then-third-second : goal.returns-then-third-second
 returns-then-third-second c =
     let a = c.args in
-    let l = holds_full (two c c.if-second-first.false) (later a.count) _ c.put_field-third.ensures.value c.if-third-second.true (omega arith) in
-    rw (head_fields a.ms a.boundary a.count) (put_not a.out.now _ (decimal_of a.ms ++ marked c ++ later a.count) l)
+    let ys = later (cond a.boundary 1 0) in
+    let p = c.put_number-first in
+    let q = c.put_field-second in
+    let h = one a.out.now p.new.out a.ms p.result p.ensures.value p.ensures.out_after c.if-first-eq0.false in
+    let k = two a.out.now p.new.out q.new.out a.ms c.mark.result p.result q.result a.boundary h c.mark.ensures q.ensures.value q.ensures.out_after c.if-second-first.false in
+    let l = holds_full k (later a.count) _ c.put_field-third.ensures.value c.if-third-second.true (omega arith) in
+    rw (head_fields a.ms a.boundary a.count) (put_not a.out.now _ (decimal_of a.ms ++ ys ++ later a.count) l)
 
 pub returns : goal.returns
 returns c =
     let a = c.args in
-    let h = holds_more (two c c.if-second-first.false) c.put_field-third.new.out (later a.count) _ c.put_field-third.ensures.value c.put_field-third.ensures.out_after c.if-third-second.false in
-    rw (head_fields a.ms a.boundary a.count) (holds_put h)
+    let p = c.put_number-first in
+    let q = c.put_field-second in
+    let t = c.put_field-third in
+    let h = one a.out.now p.new.out a.ms p.result p.ensures.value p.ensures.out_after c.if-first-eq0.false in
+    let k = two a.out.now p.new.out q.new.out a.ms c.mark.result p.result q.result a.boundary h c.mark.ensures q.ensures.value q.ensures.out_after c.if-second-first.false in
+    let g = holds_more k t.new.out (later a.count) t.result t.ensures.value t.ensures.out_after c.if-third-second.false in
+    rw (head_fields a.ms a.boundary a.count) (holds_put g)

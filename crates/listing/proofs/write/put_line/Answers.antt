@@ -1,35 +1,33 @@
 -- `listing::write::put_line` meets its contract.
 use mathlib.Core.Path.{◌≡◌, refl, ap, ◌∙◌}
-use mathlib.Core.List.{[], ◌∷◌}
+use mathlib.Core.List.{List, [], ◌∷◌}
+use mathlib.Core.Bool.{Bool}
 use Prim.Native.Nat.{ℕ, ◌+◌}
 use native.Mathlib.Omega.{arith}
 use lib.ListN.{length, get_or}
 use Rattle.tags.specs.Lists.{list_in}
-use Rattle.listing.specs.Write.{line_of, written, after, Put}
+use Rattle.listing.specs.Write.{fields_of, numbers_of, line_of, written, after, Put}
 use Rattle.listing.proofs.Held.{holds_none, holds_more, holds_full, holds_since, holds_self, place_grows, holds_put, put_holds, put_not}
 use Rattle.listing.proofs.Joined.{later, so_far, head_some, so_far_more, so_far_all, so_far_within}
 use Rattle.listing.proofs.write.put_line.Goals as goal
 
 -- the first three fields are those of the line with none of its tags
-begun : (s : tie.After-put-head invariant_loop decreases_loop)
-    → Put s.before.before.before.before.before.args.out.now
-    s.put-head.new.0
-    (so_far s.before.before.before.before.before.args.ms s.before.before.before.before.before.args.boundary (list_in s.before.before.before.before.before.args.list.now) 0)
-    s.put-head.result
-begun s =
-    let n : s.before.before.count.result ≡ length (list_in s.before.before.before.before.before.args.list.now) = s.before.before.count.ensures in
-    rw n at s.put-head.ensures
+begun : (out o tags : List ℕ) (ms n r : ℕ) (b : Bool) → n ≡ length tags → Put out o (fields_of (numbers_of ms b n [])) r
+    → Put out o (so_far ms b tags 0) r
+begun out o tags ms n r b e p = rw e at p
 
 pub returns-then-at-eq0 : goal.returns-then-at-eq0
 returns-then-at-eq0 c =
     let a = c.args in
     let tags = list_in a.list.now in
-    let l = holds_full (holds_none a.out.now) (so_far a.ms a.boundary tags 0) _ (begun c).place c.if-at-eq0.true (head_some a.ms a.boundary (length tags)) in
+    let l = holds_full (holds_none a.out.now) (so_far a.ms a.boundary tags 0) _ (begun a.out.now c.put_head-at.new.out tags a.ms c.count-count.result c.put_head-at.result a.boundary c.count-count.ensures c.put_head-at.ensures).place c.if-at-eq0.true (head_some a.ms a.boundary (length tags)) in
     put_not a.out.now _ (line_of a.ms a.boundary tags) (omega (arith, so_far_within a.ms a.boundary tags 0))
 
 pub loop-i-init : goal.loop-i-init
 loop-i-init c =
-    (omega arith, omega arith, holds_self (put_holds (begun c) c.if-at-eq0.false))
+    let a = c.args in
+    let tags = list_in a.list.now in
+    (omega arith, omega arith, holds_self (put_holds (begun a.out.now c.put_head-at.new.out tags a.ms c.count-count.result c.put_head-at.result a.boundary c.count-count.ensures c.put_head-at.ensures) c.if-at-eq0.false))
 
 pub returns-then-next-at : goal.returns-then-next-at
 returns-then-next-at c =
@@ -37,7 +35,7 @@ returns-then-next-at c =
     let a = c.args in
     let tags = list_in a.list.now in
     let n : c.count-count.result ≡ length tags = c.count-count.ensures in
-    let h = put_holds (begun c) c.if-at-eq0.false in
+    let h = put_holds (begun a.out.now c.put_head-at.new.out tags a.ms c.count-count.result c.put_head-at.result a.boundary c.count-count.ensures c.put_head-at.ensures) c.if-at-eq0.false in
     let k : c.at-tag.result ≡ get_or tags l.i 0 = c.at-tag.ensures in
     let g = holds_full l.invariant.2 (later (get_or tags l.i 0)) _ (c.put_field-next.ensures.value ∙ ap (λ (x : ℕ). after l.out l.at (later x)) k) c.if-next-at.true (omega arith) in
     let e = ap length (so_far_more a.ms a.boundary tags l.i (omega arith)) in
@@ -59,7 +57,7 @@ returns-then-end-at c =
     let a = c.args in
     let tags = list_in a.list.now in
     let n : c.count-count.result ≡ length tags = c.count-count.ensures in
-    let h = put_holds (begun c) c.if-at-eq0.false in
+    let h = put_holds (begun a.out.now c.put_head-at.new.out tags a.ms c.count-count.result c.put_head-at.result a.boundary c.count-count.ensures c.put_head-at.ensures) c.if-at-eq0.false in
     let g = holds_full l.invariant.2 (10 ∷ []) _ c.put_byte-end.ensures.value c.if-end-at.true (omega arith) in
     let e = ap length (so_far_all a.ms a.boundary tags l.i (omega arith)) in
     put_not a.out.now _ (line_of a.ms a.boundary tags) (omega (arith, h.size))
@@ -70,6 +68,6 @@ returns c =
     let a = c.args in
     let tags = list_in a.list.now in
     let n : c.count-count.result ≡ length tags = c.count-count.ensures in
-    let h = put_holds (begun c) c.if-at-eq0.false in
+    let h = put_holds (begun a.out.now c.put_head-at.new.out tags a.ms c.count-count.result c.put_head-at.result a.boundary c.count-count.ensures c.put_head-at.ensures) c.if-at-eq0.false in
     let g = holds_more l.invariant.2 c.put_byte-end.new.out (10 ∷ []) c.put_byte-end.result c.put_byte-end.ensures.value c.put_byte-end.ensures.out_after c.if-end-at.false in
     rw (so_far_all a.ms a.boundary tags l.i (omega arith)) (holds_put (holds_since g a.out.now _ _ _ refl h (omega (arith, place_grows l.invariant.2 _ g))))

@@ -1,9 +1,9 @@
 -- `listing::write::put_number` meets its contract.
-use mathlib.Core.Path.{◌≡◌, refl, sym, ◌∙◌}
+use mathlib.Core.Path.{◌≡◌, sym, ◌∙◌}
 use native.Mathlib.Omega.{arith}
 use lib.ListN.{length, length-set}
 use Rattle.listing.specs.Write.{decimal_of}
-use Rattle.listing.proofs.Decimal.{tenth, decimal_some, width_more}
+use Rattle.listing.proofs.Decimal.{decimal_some, width_more}
 use Rattle.listing.proofs.Placed.{written_fits, written_not, after_fits, after_not, number_more, number_one}
 use Rattle.listing.proofs.write.put_number.Goals as goal
 
@@ -19,11 +19,6 @@ returns-then-out-digits-2 c =
     let w : c.width-digits.result ≡ length (decimal_of a.n) = c.width-digits.ensures in
     record { value = sym (after_not a.out.now a.at (decimal_of a.n) (omega arith)); out_after = sym (written_not a.out.now a.at (decimal_of a.n) (omega arith)) }
 
-pub loop-rest-init : goal.loop-rest-init
-loop-rest-init c =
-    let w = c.width-digits.ensures in
-    (refl, omega arith, omega arith, refl)
-
 pub overflow_sub-i : goal.overflow_sub-i
 overflow_sub-i c =
     let l = c.loop-rest in
@@ -33,9 +28,6 @@ pub bounds-out-i : goal.bounds-out-i
 bounds-out-i c =
     let l = c.loop-rest in
     omega (arith, decimal_some l.rest)
-
-pub loop-rest-smaller : goal.loop-rest-smaller
-loop-rest-smaller c = tenth c.loop-rest.rest c.loop-rest-test.true
 
 pub loop-rest-preserved : goal.loop-rest-preserved
 loop-rest-preserved c =
@@ -52,3 +44,19 @@ pub bounds-out-at : goal.bounds-out-at
 bounds-out-at c =
     let l = c.loop-rest in
     omega (arith, decimal_some l.rest)
+
+pub returns-clause-value : goal.returns-clause-value
+returns-clause-value c =
+    let l = c.loop-rest in
+    let a = c.args in
+    let w : c.width-digits.result ≡ length (decimal_of a.n) = c.width-digits.ensures in
+    omega (arith, after_fits a.out.now a.at (decimal_of a.n) (omega arith))
+
+pub returns-clause-out_after : goal.returns-clause-out_after
+returns-clause-out_after c =
+    let l = c.loop-rest in
+    let a = c.args in
+    let w : c.width-digits.result ≡ length (decimal_of a.n) = c.width-digits.ensures in
+    let s = decimal_some l.rest in
+    number_one l.out a.at l.rest c.digit-2.result c.digit-2.ensures c.loop-rest-test.false (omega arith)
+    ∙ l.invariant.3 ∙ sym (written_fits a.out.now a.at (decimal_of a.n) (omega arith))

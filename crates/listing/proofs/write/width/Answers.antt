@@ -1,17 +1,10 @@
 -- `listing::write::width` meets its contract.
-use mathlib.Core.Path.{refl}
 use native.Mathlib.Omega.{arith}
-use Rattle.listing.proofs.Decimal.{tenth, decimal_20, decimal_some, width_one, width_more}
+use Rattle.listing.proofs.Decimal.{decimal_20, decimal_some, width_one, width_more}
 use Rattle.listing.proofs.write.width.Goals as goal
-
-pub loop-rest-init : goal.loop-rest-init
-loop-rest-init c = refl
 
 pub overflow_add-digits : goal.overflow_add-digits
 overflow_add-digits c = omega (arith, decimal_some c.loop-rest.rest, decimal_20 c.args.n c.ranges.n.fits)
-
-pub loop-rest-smaller : goal.loop-rest-smaller
-loop-rest-smaller c = tenth c.loop-rest.rest c.loop-rest-test.true
 
 pub loop-rest-preserved : goal.loop-rest-preserved
 loop-rest-preserved c = omega (arith, width_more c.loop-rest.rest c.loop-rest-test.true)

@@ -1,53 +1,74 @@
 -- `slices::slice::list_slice` meets its contract.
 use mathlib.Core.Path.{◌≡◌, refl, ap, sym, ◌∙◌}
 use mathlib.Core.List.{List, ◌++◌}
-use Prim.Native.Nat.{ℕ, ◌≤◌, ◌<◌, ◌+◌, ◌-◌, ◌*◌, ◌%◌, min}
+use Prim.Native.Nat.{ℕ, ◌<◌, ◌+◌, ◌-◌, ◌*◌, ◌%◌, min}
 use native.Mathlib.Omega.{arith}
 use lib.ListN.{length, get_or, take, drop}
 use Rattle.ieee.proofs.Bound.{slices_pos}
 use Rattle.ieee.specs.Round.{slices_of}
-use Rattle.lists.specs.Slices.{size, slice}
+use Rattle.lists.specs.Slices.{slice}
 use Rattle.tags.specs.Lists.{list_in, room, pushed}
 use Rattle.tags.proofs.ListLaws.{room_same, list_small}
 use Rattle.slices.proofs.SliceLaws.{size_is, begins_past, begins_within, slice_none, slice_past, slice_cut, fitted_none, part_more}
 use Rattle.slices.proofs.slice.list_slice.Goals as goal
 use Rattle.slices.proofs.slice.list_slice.Goals.{else-n-i, then-n-i}
 
--- the size that is worked out is that of the definition
-sized : (c : tie.After-slice-size invariant_loop decreases_loop)
-    → c.slice-size.result ≡ size (slices_of c.before.before.before.before.before.args.period c.before.before.before.before.before.args.cycle) (list_in c.before.before.before.before.before.args.sorted.now)
-sized c =
-    let a = c.before.before.before.before.before.args in
-    let n = c.before.before.count in
-    let s = c.before.slices in
-    size_is (list_in a.sorted.now) (slices_of a.period a.cycle) n.result s.result c.slice-size.result n.ensures s.ensures c.slice-size.ensures
-
--- the slice begins within the list, so its places fit
-begins : (c : tie.Else2 invariant_loop decreases_loop) → c.before.before.before.before.before.before.before.args.index * c.before.before.slice-size.result ≤ c.before.before.before.before.count.result
-begins c =
-    let z = c.before.before.slice-size in
-    let pos : 0 < z.result = omega (arith, c.before.if1.false) in
-    begins_within c.before.before.before.before.count.result z.result c.before.before.before.before.before.before.before.args.index pos c.if2.false
-
 pub slice_size-size-requires : goal.slice_size-size-requires
 slice_size-size-requires c =
     let a = c.args in
     omega (arith, c.slices.ensures, slices_pos a.period a.cycle)
 
-pub nonzero_div-n : goal.nonzero_div-n
-nonzero_div-n c = omega (arith, c.if-size-eq0.false)
-
+-- the slice begins within the list, so its places fit
 pub overflow_mul-i : goal.overflow_mul-i
-overflow_mul-i c = let inside = begins c in omega arith
+overflow_mul-i c =
+    let inside = begins_within c.count-n.result c.slice_size-size.result c.args.index (omega arith) (omega arith) in
+    omega arith
 
 pub overflow_sub-n : goal.overflow_sub-n
-overflow_sub-n c = begins c
+overflow_sub-n c = begins_within c.count-n.result c.slice_size-size.result c.args.index (omega arith) (omega arith)
 
-pub overflow_add-i : goal.overflow_add-i
-overflow_add-i c = omega arith
+pub returns-then-size-eq0 : goal.returns-then-size-eq0
+returns-then-size-eq0 c =
+    let a = c.args in
+    let z = c.slice_size-size.result in
+    let S = slices_of a.period a.cycle in
+    let xs = list_in a.sorted.now in
+    let sized = size_is xs S c.count-n.result c.slices.result z c.count-n.ensures c.slices.ensures c.slice_size-size.ensures in
+    fitted_none a.list.now (slice S xs a.index) (slice_none S xs a.index z sized c.if-size-eq0.true)
 
-pub loop-i-smaller : goal.loop-i-smaller
-loop-i-smaller c = omega arith
+pub returns-then-n-size : goal.returns-then-n-size
+returns-then-n-size c =
+    let a = c.args in
+    let n = c.count-n in
+    let z = c.slice_size-size.result in
+    let S = slices_of a.period a.cycle in
+    let xs = list_in a.sorted.now in
+    let sized = size_is xs S n.result c.slices.result z n.ensures c.slices.ensures c.slice_size-size.ensures in
+    let past = begins_past n.result z a.index (omega arith) c.if-n-size.true in
+    fitted_none a.list.now (slice S xs a.index) (slice_past S xs a.index z sized (omega (arith, n.ensures)))
+
+pub overflow_add-end : goal.overflow_add-end
+overflow_add-end c =
+    let inside = begins_within c.count-n.result c.slice_size-size.result c.args.index (omega arith) (omega arith) in
+    omega arith
+
+pub loop-i-init : goal.loop-i-init
+loop-i-init c =
+    let a = c.args in
+    let z = c.slice_size-size.result in
+    let inside = begins_within c.count-n.result z a.index (omega arith) (omega arith) in
+    let at = a.index * z in
+    let rest = drop at (list_in a.sorted.now) in
+    let none : at - at ≡ 0 = omega arith in (
+      omega arith,
+      (
+        elim c.if-n-i.branch [ then-n-i w ↦ omega arith | else-n-i w ↦ omega arith ],
+        (
+          elim c.if-n-i.branch [ then-n-i w ↦ omega arith | else-n-i w ↦ omega arith ],
+          (refl, fitted_none a.list.now (take (at - at) rest) (ap (λ (j : ℕ). take j rest) none)),
+        ),
+      ),
+    )
 
 pub loop-i-preserved : goal.loop-i-preserved
 loop-i-preserved c =
@@ -79,5 +100,18 @@ loop-i-preserved c =
       ),
     )
 
-pub shape_of-list : goal.shape_of-list
-shape_of-list c = c.loop-i.invariant.1.1.1.0
+pub returns : goal.returns
+returns c =
+    let a = c.args in
+    let n = c.count-n in
+    let z = c.slice_size-size.result in
+    let S = slices_of a.period a.cycle in
+    let xs = list_in a.sorted.now in
+    let sized = size_is xs S n.result c.slices.result z n.ensures c.slices.ensures c.slice_size-size.ensures in
+    let l = c.loop-i in
+    let at = a.index * z in
+    let clipped : l.i - at ≡ min z (length xs - at) =
+    elim c.if-n-i.branch [ then-n-i w ↦ omega (arith, n.ensures) | else-n-i w ↦ omega (arith, n.ensures) ]
+    in
+    l.invariant.1.1.1.1
+    ∙ ap (λ (r : List ℕ). take (room a.list.now) (list_in a.list.now ++ r)) (slice_cut S xs a.index z (l.i - at) sized clipped)

@@ -1,6 +1,6 @@
 -- `slices::slice::take_slice` meets its contract.
 use mathlib.Core.Path.{◌≡◌}
-use mathlib.Core.Bool.{true, false}
+use mathlib.Core.Bool.{false}
 use Rattle.ieee.specs.Round.{slices_of}
 use Rattle.memory.specs.Halves.{halves_in}
 use Rattle.tags.specs.Lists.{list_in}
