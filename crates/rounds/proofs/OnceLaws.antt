@@ -1,5 +1,5 @@
 -- Rule 6: the list of a round names no tag twice, and only tags of the table. So there is room for it where there is for every tag of the table.
-use mathlib.Core.Path.{◌≡◌, refl, ap, sym, ◌∙◌}
+use mathlib.Core.Path.{◌≡◌, refl, sym, ◌∙◌}
 use mathlib.Core.Bool.{Bool, true, false, not, ◌&&◌, cond, true≢false}
 use mathlib.Core.List.{List, [], ◌∷◌, ◌++◌}
 use Prim.Native.Nat.{ℕ, zero, suc, ◌+◌, ◌*◌, ◌≤◌, min}
@@ -10,7 +10,6 @@ use lib.Ieee.{Float, binary64, div}
 use lib.ListN.{length, get_or, drop}
 use Rattle.ieee.specs.Round.{float, slices_of}
 use Rattle.lists.specs.Keep.{keep, count, Below, up_to}
-use Rattle.lists.specs.Sort.{sort}
 use Rattle.lists.specs.Slices.{size, slice}
 use Rattle.lists.proofs.KeepLaws.{count-take, count-append, count-keep, count-keep_none, below-append, below-keep, below-take, below_more}
 use Rattle.lists.proofs.CountLaws.{length_few}

@@ -1,4 +1,6 @@
 // Rule 6: which tags are read in a round.
+#![tactic(auto)]
+
 pub mod added;
 pub mod due;
 pub mod graces;

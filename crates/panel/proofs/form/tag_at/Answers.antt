@@ -1,0 +1,15 @@
+-- `panel::form::tag_at` meets its contract.
+use mathlib.Core.Path.{sym, ◌∙◌}
+use native.Mathlib.Omega.{arith}
+use Rattle.panel.proofs.PanelLaws.{tags_at, tags_past}
+use Rattle.panel.proofs.form.tag_at.Goals as goal
+
+pub returns-then-i-n : goal.returns-then-i-n
+returns-then-i-n c =
+    let a = c.args in
+    c.byte.ensures ∙ sym (tags_at a.list.now a.i (omega arith))
+
+pub returns : goal.returns
+returns c =
+    let a = c.args in
+    sym (tags_past a.list.now a.i (omega arith))
