@@ -63,6 +63,12 @@ def imports(text, crates):
     return out
 
 
+def aliases(text, crates):
+    """The names under which a file has whole modules of this repository's own."""
+    own = [m for m in USE.finditer(text) if is_own(m[3], crates) and not m[4]]
+    return {m[5] or m[3].rsplit(".", 1)[-1] for m in own}
+
+
 def snake(word):
     return re.sub(r"(?<=[a-z0-9])[A-Z]", lambda m: "_" + m[0].lower(), word)
 
@@ -111,6 +117,7 @@ def main(argv):
     bad, outs = [], {}
     for p, t in texts.items():
         foreign = imports(t, crates)
+        modules = aliases(t, crates)
         is_code = p.endswith(".rt")
         seen = {}
 
@@ -132,7 +139,7 @@ def main(argv):
             return re.sub(r"(?<=`)[^`]+(?=`)", lambda q: re.sub(r"[\w'-]+", one, q[0]), comment) if "`" in comment else re.sub(r"\b[a-z]\w*[a-z0-9][A-Z]\w*", one, comment)
 
         def piece(text):
-            buf, pos = [], 0
+            buf, pos, prev = [], 0, ""
             for m in TOKEN.finditer(text):
                 gap, word = text[pos : m.start()], m[0]
                 pos = m.end()
@@ -140,7 +147,11 @@ def main(argv):
                     word = inside(word)
                 elif not word.startswith(('"', "«")):
                     after_dot = gap.endswith(".") and not gap.endswith("..")
-                    if after_dot:
+                    of_module = gap == "." and prev in modules
+                    prev = m[0]
+                    if of_module:
+                        word = turned(word, False)
+                    elif after_dot:
                         word = new(word, known) if word in fields else word
                     else:
                         word = turned(word, True)
@@ -148,8 +159,10 @@ def main(argv):
             return "".join(buf + [text[pos:]])
 
         def use(m):
-            if not is_own(m[3], crates) or not m[4]:
+            if not is_own(m[3], crates):
                 return m[0]
+            if not m[4]:
+                return "%s%s%s%s%s" % (m[1], m[2], m[3], " as " + turned(m[5], False) if m[5] else "", m[6])
             items = re.sub(r"[^\s,]+", lambda w: w[0] if w[0] == "as" else turned(w[0], True), m[4])
             return "%s%s%s.{%s}%s%s" % (m[1], m[2], m[3], items, " as " + m[5] if m[5] else "", m[6])
 

@@ -33,27 +33,27 @@ room_check mem places asked = cond (is_engine mem) (short_of places asked) not_a
 
 -- Rule 10: group statistics; 16 places are asked for
 abbrev pub group_cells : Worker → List ℕ
-group_cells W = shown.groupCells W.board
+group_cells W = shown.group_cells W.board
 
 abbrev pub group_count : Worker → List ℕ → ℕ
-group_count W out = shown.groupCount W.board out
+group_count W out = shown.group_count W.board out
 
 abbrev pub group_check : List ℕ → List ℕ → ℕ
 group_check mem out = room_check mem (length out / 40) 16
 
 -- the table in table order; a place for every name that a directory can have is asked for
 abbrev pub table_count : Worker → List ℕ → ℕ
-table_count W out = shown.tableCount W.board out
+table_count W out = shown.table_count W.board out
 
 abbrev pub table_check : List ℕ → List ℕ → ℕ
 table_check mem out = room_check mem (length out / 16) max_names
 
 -- Rule 11: the panel list; the room asked for is that of a list of as many tags as a directory can have
 abbrev pub panel_bytes : Worker → List ℕ
-panel_bytes W = shown.panelBytes W.board
+panel_bytes W = shown.panel_bytes W.board
 
 abbrev pub panel_count : Worker → List ℕ → ℕ
-panel_count W out = shown.panelCount W.board out
+panel_count W out = shown.panel_count W.board out
 
 abbrev pub panel_code : List ℕ → List ℕ → ℕ
 panel_code mem out = room_check mem (length out) (panel_room max_names)

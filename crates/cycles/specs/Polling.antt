@@ -31,7 +31,7 @@ remaining W at = sub binary64 W.head.progress.tick (elapsed W at)
 
 -- nothing is told yet: a round is to be worked out
 abbrev pub polls : Worker → Told
-polls W = tell W reply.goOn []
+polls W = tell W reply.go_on []
 
 -- Rule 9: the rest of the tick is waited for
 abbrev pub waiting : Worker → At → Told

@@ -14,62 +14,62 @@ use Rattle.histories.specs.Histories.{answers, trace}
 use Rattle.turns.specs.Calls.{Call, tier, steps, write, look, look_state, look_panel, Answer, number_is, told, state_is, stats_are, counts_are, list_is, tag_is, answer, after}
 use Rattle.turns.specs.Demand.{round_in, event}
 use Rattle.possible.proofs.Fresh.{setup}
-use Rattle.lists.specs.Keep as lists-Keep
-use Rattle.lists.specs.Slices as lists-Slices
-use Rattle.lists.specs.Sort as lists-Sort
-use Rattle.histories.specs.Events as histories-Events
-use Rattle.histories.specs.Histories as histories-Histories
-use Rattle.histories.specs.Respects as histories-Respects
-use Rattle.ieee.specs.Band as ieee-Band
-use Rattle.ieee.specs.Round as ieee-Round
-use Rattle.ieee.specs.Times as ieee-Times
-use Rattle.names.specs.Order as names-Order
-use Rattle.names.specs.Bits as names-Bits
-use Rattle.names.specs.Directory as names-Directory
-use Rattle.names.specs.Keys as names-Keys
-use Rattle.words.specs.Entry as words-Entry
-use Rattle.memory.specs.Blocks as memory-Blocks
-use Rattle.memory.specs.Cells as memory-Cells
-use Rattle.memory.specs.Halves as memory-Halves
-use Rattle.tags.specs.Lists as tags-Lists
-use Rattle.table.specs.Row as table-Row
-use Rattle.table.specs.Table as table-Table
-use Rattle.tiers.specs.Tiers as tiers-Tiers
-use Rattle.groups.specs.Groups as groups-Groups
-use Rattle.slices.specs.Slice as slices-Slice
-use Rattle.heads.specs.Options as heads-Options
-use Rattle.rounds.specs.Tick as rounds-Tick
-use Rattle.rounds.specs.Graces as rounds-Graces
-use Rattle.rounds.specs.Due as rounds-Due
-use Rattle.rounds.specs.Round as rounds-Round
-use Rattle.settings.specs.Records as settings-Records
-use Rattle.settings.specs.Settings as settings-Settings
-use Rattle.settings.specs.Configured as settings-Configured
-use Rattle.versions.specs.Versions as versions-Versions
-use Rattle.heads.specs.Progress as heads-Progress
-use Rattle.heads.specs.Stats as heads-Stats
-use Rattle.engine.specs.Engine as engine-Engine
-use Rattle.panel.specs.Panel as panel-Panel
-use Rattle.results.specs.Results as results-Results
-use Rattle.apply.specs.Apply as apply-Apply
-use Rattle.readings.specs.Listed as readings-Listed
-use Rattle.lent.specs.Lent as lent-Lent
-use Rattle.queue.specs.Queue as queue-Queue
-use Rattle.descriptions.specs.Descriptions as descriptions-Descriptions
-use Rattle.board.specs.Layout as board-Layout
-use Rattle.board.specs.Board as board-Board
-use Rattle.readings.specs.Changes as readings-Changes
-use Rattle.stale.specs.Stale as stale-Stale
-use Rattle.fresh.specs.Fresh as fresh-Fresh
-use Rattle.replies.specs.Losing as replies-Losing
-use Rattle.cycles.specs.Polling as cycles-Polling
-use Rattle.step_checks.specs.Awaited as step-checks-Awaited
-use Rattle.step_answers.specs.Answers as step-answers-Answers
-use Rattle.worker.specs.Steps as worker-Steps
+use Rattle.lists.specs.Keep as lists_Keep
+use Rattle.lists.specs.Slices as lists_Slices
+use Rattle.lists.specs.Sort as lists_Sort
+use Rattle.histories.specs.Events as histories_Events
+use Rattle.histories.specs.Histories as histories_Histories
+use Rattle.histories.specs.Respects as histories_Respects
+use Rattle.ieee.specs.Band as ieee_Band
+use Rattle.ieee.specs.Round as ieee_Round
+use Rattle.ieee.specs.Times as ieee_Times
+use Rattle.names.specs.Order as names_Order
+use Rattle.names.specs.Bits as names_Bits
+use Rattle.names.specs.Directory as names_Directory
+use Rattle.names.specs.Keys as names_Keys
+use Rattle.words.specs.Entry as words_Entry
+use Rattle.memory.specs.Blocks as memory_Blocks
+use Rattle.memory.specs.Cells as memory_Cells
+use Rattle.memory.specs.Halves as memory_Halves
+use Rattle.tags.specs.Lists as tags_Lists
+use Rattle.table.specs.Row as table_Row
+use Rattle.table.specs.Table as table_Table
+use Rattle.tiers.specs.Tiers as tiers_Tiers
+use Rattle.groups.specs.Groups as groups_Groups
+use Rattle.slices.specs.Slice as slices_Slice
+use Rattle.heads.specs.Options as heads_Options
+use Rattle.rounds.specs.Tick as rounds_Tick
+use Rattle.rounds.specs.Graces as rounds_Graces
+use Rattle.rounds.specs.Due as rounds_Due
+use Rattle.rounds.specs.Round as rounds_Round
+use Rattle.settings.specs.Records as settings_Records
+use Rattle.settings.specs.Settings as settings_Settings
+use Rattle.settings.specs.Configured as settings_Configured
+use Rattle.versions.specs.Versions as versions_Versions
+use Rattle.heads.specs.Progress as heads_Progress
+use Rattle.heads.specs.Stats as heads_Stats
+use Rattle.engine.specs.Engine as engine_Engine
+use Rattle.panel.specs.Panel as panel_Panel
+use Rattle.results.specs.Results as results_Results
+use Rattle.apply.specs.Apply as apply_Apply
+use Rattle.readings.specs.Listed as readings_Listed
+use Rattle.lent.specs.Lent as lent_Lent
+use Rattle.queue.specs.Queue as queue_Queue
+use Rattle.descriptions.specs.Descriptions as descriptions_Descriptions
+use Rattle.board.specs.Layout as board_Layout
+use Rattle.board.specs.Board as board_Board
+use Rattle.readings.specs.Changes as readings_Changes
+use Rattle.stale.specs.Stale as stale_Stale
+use Rattle.fresh.specs.Fresh as fresh_Fresh
+use Rattle.replies.specs.Losing as replies_Losing
+use Rattle.cycles.specs.Polling as cycles_Polling
+use Rattle.step_checks.specs.Awaited as step_checks_Awaited
+use Rattle.step_answers.specs.Answers as step_answers_Answers
+use Rattle.worker.specs.Steps as worker_Steps
 use Rattle.capi.specs.Memory.{list_size}
-use Rattle.capi.specs.Memory as capi-Memory
-use Rattle.checks.specs.Calls as checks-Calls
-use Rattle.checks.specs.Creation as checks-Creation
+use Rattle.capi.specs.Memory as capi_Memory
+use Rattle.checks.specs.Calls as checks_Calls
+use Rattle.checks.specs.Creation as checks_Creation
 
 -- a step at the clock reading n with an answer of this kind
 abbrev pub step_at : ℕ → ℕ → Call
@@ -111,5 +111,5 @@ a_turn : (creation_check setup ≡ 0)
     × (numbers (answers after answer some_calls (fresh_worker setup)) ≡ 0 ∷ 0 ∷ 0 ∷ 1 ∷ 2 ∷ 9 ∷ 3 ∷ 1 ∷ 43 ∷ 0 ∷ 23 ∷ 13 ∷ 9 ∷ 7 ∷ 9 ∷ 1 ∷ 2 ∷ 9 ∷ 3 ∷ [])
     × (taken rounds ≡ (0 ∷ 1 ∷ []) ∷ (2 ∷ []) ∷ [])
     × (since rounds ≡ true ∷ false ∷ [])
-unfolding lists_Keep.keep lists_Keep.up_to lists_Slices.slice lists_Slices.next lists_Slices.slices lists_Sort.insert lists_Sort.sortOnto histories_Events.boundaryRounds histories_Events.allNames histories_Events.Each histories_Events.RestUndisturbed histories_Events.EveryTurnOfRounds histories_Histories.Ready histories_Histories.Happened histories_Histories.atEach histories_Respects.Respects ieee_Band.magnitude ieee_Band.within ieee_Round.roundTiesEven ieee_Round.slicesOf ieee_Round.round1Of ieee_Times.clockOk names_Order.compared names_Order.lowerOf names_Bits.lastDot names_Bits.allDigits names_Bits.splitBit names_Directory.cut names_Directory.goodEnds names_Directory.goodBytes names_Directory.goodNames names_Directory.risingFrom names_Directory.rising names_Directory.directoryCheck names_Keys.below names_Keys.find words_Entry.entryFrom words_Entry.entryWordsOf memory_Blocks.blocks memory_Cells.cells_in memory_Cells.rowsIn memory_Halves.halvesIn tags_Lists.listIn table_Row.tagFrom table-Table.tableIn tiers_Tiers.timingSet tiers_Tiers.tagSet tiers_Tiers.orderSet tiers_Tiers.graceEnded tiers_Tiers.putTable tiers_Tiers.enterGrace tiers_Tiers.setTier groups-Groups.groupFrom groups-Groups.groupsIn groups-Groups.groupRead groups-Groups.noted heads_Options.optionsCheck rounds_Tick.leastRate rounds_Graces.runOut rounds_Due.isDue rounds_Due.marked rounds_Due.recordedDue slices_Slice.place_of rounds_Round.round settings_Records.recordsOf settings_Records.every settings_Settings.settingFrom settings_Settings.settingIn settings_Settings.settingOk settings_Settings.settingsOk settings_Configured.configuredFrom settings_Configured.givenGroups settings_Configured.groupOk settings_Configured.configuredOk settings_Configured.groupPlaces settings_Configured.configuredIn versions_Versions.tagTaken versions_Versions.eachAt versions_Versions.versionTable heads_Progress.phaseFrom heads_Stats.tailStats engine_Engine.engineFrom engine_Engine.engineIn engine_Engine.stored panel_Panel.panelOf panel_Panel.written panel_Panel.writtenLength panel_Panel.tagsOf panel_Panel.tiersOf panel_Panel.entryCheck panel_Panel.panelCheck panel_Panel.loaded apply_Apply.timingRead apply_Apply.isEntrySent apply_Apply.tagRead apply_Apply.appliedAt apply_Apply.sentAt stale_Stale.tagStale results_Results.resultIn results_Results.firstOk readings_Listed.applyNext readings_Listed.applyFrom lent_Lent.cellBytes lent_Lent.overBytes lent_Lent.wroteAll lent_Lent.cellPut lent_Lent.recordPut lent_Lent.records queue_Queue.writeFrom queue_Queue.placesIn queue_Queue.queueIn descriptions_Descriptions.knownFrom board_Layout.parts_in board_Board.boardFrom board_Board.boardIn readings_Changes.appliedTo stale_Stale.staledIn fresh_Fresh.freshBoard replies_Losing.disconnected replies_Losing.staling replies_Losing.down replies_Losing.top cycles_Polling.idle cycles_Polling.tail cycles_Polling.resume cycles_Polling.writingOf cycles_Polling.checking cycles_Polling.reading cycles_Polling.polled cycles_Polling.poll cycles_Polling.finished step_checks_Awaited.awaited step_checks_Awaited.answers step_checks_Awaited.contents step_checks_Awaited.stepCheck step-answers_Answers.connected step-answers_Answers.reconnecting step-answers_Answers.opened step-answers_Answers.openVersion step-answers_Answers.roundVersion step-answers_Answers.results step-answers_Answers.descriptions step-answers_Answers.written step-answers_Answers.readBack step-answers_Answers.backApplied step-answers_Answers.waited step-answers_Answers.backedOff worker_Steps.taken worker_Steps.handled worker_Steps.stepped worker_Steps.step capi_Memory.workerIn checks_Calls.clockCheck checks_Calls.tierCheck checks_Calls.loadCheck checks_Calls.writeCheck checks_Creation.creationCheck ieee-lib.eq ieee-lib.le ieee-lib.lt ieee-lib.add ieee-lib.sub ieee-lib.mul ieee-lib.div ieee-lib.neg ieee-lib.of_int ieee-lib.round ieee-lib.to_unsigned ieee-lib.of_bits ieee-lib.to_bits after event answer round_in
+unfolding lists_Keep.keep lists_Keep.up_to lists_Slices.slice lists_Slices.next lists_Slices.slices lists_Sort.insert lists_Sort.sort_onto histories_Events.boundary_rounds histories_Events.all_names histories_Events.Each histories_Events.RestUndisturbed histories_Events.EveryTurnOfRounds histories_Histories.Ready histories_Histories.Happened histories_Histories.at_each histories_Respects.Respects ieee_Band.magnitude ieee_Band.within ieee_Round.round_ties_even ieee_Round.slices_of ieee_Round.round1_of ieee_Times.clock_ok names_Order.compared names_Order.lower_of names_Bits.last_dot names_Bits.all_digits names_Bits.split_bit names_Directory.cut names_Directory.good_ends names_Directory.good_bytes names_Directory.good_names names_Directory.rising_from names_Directory.rising names_Directory.directory_check names_Keys.below names_Keys.find words_Entry.entry_from words_Entry.entry_words_of memory_Blocks.blocks memory_Cells.cells_in memory_Cells.rows_in memory_Halves.halves_in tags_Lists.list_in table_Row.tag_from table_Table.table_in tiers_Tiers.timing_set tiers_Tiers.tag_set tiers_Tiers.order_set tiers_Tiers.grace_ended tiers_Tiers.put_table tiers_Tiers.enter_grace tiers_Tiers.set_tier groups_Groups.group_from groups_Groups.groups_in groups_Groups.group_read groups_Groups.noted heads_Options.options_check rounds_Tick.least_rate rounds_Graces.run_out rounds_Due.is_due rounds_Due.marked rounds_Due.recorded_due slices_Slice.place_of rounds_Round.round settings_Records.records_of settings_Records.every settings_Settings.setting_from settings_Settings.setting_in settings_Settings.setting_ok settings_Settings.settings_ok settings_Configured.configured_from settings_Configured.given_groups settings_Configured.group_ok settings_Configured.configured_ok settings_Configured.group_places settings_Configured.configured_in versions_Versions.tag_taken versions_Versions.each_at versions_Versions.version_table heads_Progress.phase_from heads_Stats.tail_stats engine_Engine.engine_from engine_Engine.engine_in engine_Engine.stored panel_Panel.panel_of panel_Panel.written panel_Panel.written_length panel_Panel.tags_of panel_Panel.tiers_of panel_Panel.entry_check panel_Panel.panel_check panel_Panel.loaded apply_Apply.timing_read apply_Apply.is_entry_sent apply_Apply.tag_read apply_Apply.applied_at apply_Apply.sent_at stale_Stale.tag_stale results_Results.result_in results_Results.first_ok readings_Listed.apply_next readings_Listed.apply_from lent_Lent.cell_bytes lent_Lent.over_bytes lent_Lent.wrote_all lent_Lent.cell_put lent_Lent.record_put lent_Lent.records queue_Queue.write_from queue_Queue.places_in queue_Queue.queue_in descriptions_Descriptions.known_from board_Layout.parts_in board_Board.board_from board_Board.board_in readings_Changes.applied_to stale_Stale.staled_in fresh_Fresh.fresh_board replies_Losing.disconnected replies_Losing.staling replies_Losing.down replies_Losing.top cycles_Polling.idle cycles_Polling.tail cycles_Polling.resume cycles_Polling.writing_of cycles_Polling.checking cycles_Polling.reading cycles_Polling.polled cycles_Polling.poll cycles_Polling.finished step_checks_Awaited.awaited step_checks_Awaited.answers step_checks_Awaited.contents step_checks_Awaited.step_check step-answers_Answers.connected step-answers_Answers.reconnecting step-answers_Answers.opened step-answers_Answers.openVersion step-answers_Answers.roundVersion step-answers_Answers.results step-answers_Answers.descriptions step-answers_Answers.written step-answers_Answers.readBack step-answers_Answers.backApplied step-answers_Answers.waited step-answers_Answers.backedOff worker_Steps.taken worker_Steps.handled worker_Steps.stepped worker_Steps.step capi_Memory.worker_in checks_Calls.clock_check checks_Calls.tier_check checks_Calls.load_check checks_Calls.write_check checks_Creation.creation_check ieee-lib.eq ieee-lib.le ieee-lib.lt ieee-lib.add ieee-lib.sub ieee-lib.mul ieee-lib.div ieee-lib.neg ieee-lib.of_int ieee-lib.round ieee-lib.to_unsigned ieee-lib.of_bits ieee-lib.to_bits after event answer round_in
 a_turn = (refl, refl, refl, refl)

@@ -11,33 +11,33 @@ use Rattle.capi.specs.Creation.{fresh_worker, creation_answer}
 use Rattle.capi.specs.Memory.{memory_size, worker_in}
 use Rattle.turns.specs.EntryContracts.{CreateMet}
 use Rattle.possible.proofs.PossibleLaws.{ref}
-use Rattle.lists.specs.Keep as lists-Keep
-use Rattle.names.specs.Order as names-Order
-use Rattle.names.specs.Bits as names-Bits
-use Rattle.names.specs.Directory as names-Directory
-use Rattle.names.specs.Keys as names-Keys
-use Rattle.words.specs.Entry as words-Entry
-use Rattle.memory.specs.Blocks as memory-Blocks
-use Rattle.memory.specs.Cells as memory-Cells
-use Rattle.memory.specs.Halves as memory-Halves
-use Rattle.tags.specs.Lists as tags-Lists
-use Rattle.table.specs.Row as table-Row
-use Rattle.table.specs.Table as table-Table
-use Rattle.groups.specs.Groups as groups-Groups
-use Rattle.heads.specs.Options as heads-Options
-use Rattle.settings.specs.Records as settings-Records
-use Rattle.settings.specs.Settings as settings-Settings
-use Rattle.settings.specs.Configured as settings-Configured
-use Rattle.versions.specs.Versions as versions-Versions
-use Rattle.heads.specs.Progress as heads-Progress
-use Rattle.heads.specs.Stats as heads-Stats
-use Rattle.engine.specs.Engine as engine-Engine
-use Rattle.queue.specs.Queue as queue-Queue
-use Rattle.board.specs.Layout as board-Layout
-use Rattle.board.specs.Board as board-Board
-use Rattle.fresh.specs.Fresh as fresh-Fresh
-use Rattle.capi.specs.Memory as capi-Memory
-use Rattle.checks.specs.Creation as checks-Creation
+use Rattle.lists.specs.Keep as lists_Keep
+use Rattle.names.specs.Order as names_Order
+use Rattle.names.specs.Bits as names_Bits
+use Rattle.names.specs.Directory as names_Directory
+use Rattle.names.specs.Keys as names_Keys
+use Rattle.words.specs.Entry as words_Entry
+use Rattle.memory.specs.Blocks as memory_Blocks
+use Rattle.memory.specs.Cells as memory_Cells
+use Rattle.memory.specs.Halves as memory_Halves
+use Rattle.tags.specs.Lists as tags_Lists
+use Rattle.table.specs.Row as table_Row
+use Rattle.table.specs.Table as table_Table
+use Rattle.groups.specs.Groups as groups_Groups
+use Rattle.heads.specs.Options as heads_Options
+use Rattle.settings.specs.Records as settings_Records
+use Rattle.settings.specs.Settings as settings_Settings
+use Rattle.settings.specs.Configured as settings_Configured
+use Rattle.versions.specs.Versions as versions_Versions
+use Rattle.heads.specs.Progress as heads_Progress
+use Rattle.heads.specs.Stats as heads_Stats
+use Rattle.engine.specs.Engine as engine_Engine
+use Rattle.queue.specs.Queue as queue_Queue
+use Rattle.board.specs.Layout as board_Layout
+use Rattle.board.specs.Board as board_Board
+use Rattle.fresh.specs.Fresh as fresh_Fresh
+use Rattle.capi.specs.Memory as capi_Memory
+use Rattle.checks.specs.Creation as checks_Creation
 
 abbrev pub setup : Setup
 setup = record {
@@ -64,7 +64,7 @@ lent = replicate (memory_size 3) 0
 
 -- creation accepts this setup; the memory holds a fresh engine, and is as long as the one that was lent
 computed : (creation_answer setup (memory_size 3) ≡ 0) × (worker_in fresh ≡ fresh_worker setup) × (length fresh ≡ memory_size 3)
-unfolding lists_Keep.keep lists_Keep.up_to names_Order.compared names_Order.lowerOf names_Bits.lastDot names_Bits.allDigits names_Bits.splitBit names_Directory.cut names_Directory.goodEnds names_Directory.goodBytes names_Directory.goodNames names_Directory.risingFrom names_Directory.rising names_Directory.directoryCheck names_Keys.below names_Keys.find words_Entry.entryFrom words_Entry.entryWordsOf memory_Blocks.blocks memory_Cells.cells_in memory_Cells.rowsIn memory_Halves.halvesIn tags_Lists.listIn table_Row.tagFrom table-Table.tableIn groups-Groups.groupFrom groups-Groups.groupsIn groups-Groups.groupRead heads_Options.optionsCheck settings_Records.recordsOf settings_Records.every settings_Settings.settingFrom settings_Settings.settingIn settings_Settings.settingOk settings_Settings.settingsOk settings_Configured.configuredFrom settings_Configured.givenGroups settings_Configured.groupOk settings_Configured.configuredOk settings_Configured.groupPlaces settings_Configured.configuredIn versions_Versions.tagTaken versions_Versions.eachAt versions_Versions.versionTable heads_Progress.phaseFrom heads_Stats.tailStats engine_Engine.engineFrom engine_Engine.engineIn engine_Engine.stored queue_Queue.writeFrom queue_Queue.placesIn queue_Queue.queueIn board_Layout.parts_in board_Board.boardFrom board_Board.boardIn fresh_Fresh.freshBoard capi_Memory.workerIn creation_answer checks_Creation.creationCheck ieee-lib.eq ieee-lib.le ieee-lib.lt ieee-lib.add ieee-lib.sub ieee-lib.mul ieee-lib.div ieee-lib.neg ieee-lib.of_int ieee-lib.round ieee-lib.to_unsigned ieee-lib.of_bits ieee-lib.to_bits
+unfolding lists_Keep.keep lists_Keep.up_to names_Order.compared names_Order.lower_of names_Bits.last_dot names_Bits.all_digits names_Bits.split_bit names_Directory.cut names_Directory.good_ends names_Directory.good_bytes names_Directory.good_names names_Directory.rising_from names_Directory.rising names_Directory.directory_check names_Keys.below names_Keys.find words_Entry.entry_from words_Entry.entry_words_of memory_Blocks.blocks memory_Cells.cells_in memory_Cells.rows_in memory_Halves.halves_in tags_Lists.list_in table_Row.tag_from table_Table.table_in groups_Groups.group_from groups_Groups.groups_in groups_Groups.group_read heads_Options.options_check settings_Records.records_of settings_Records.every settings_Settings.setting_from settings_Settings.setting_in settings_Settings.setting_ok settings_Settings.settings_ok settings_Configured.configured_from settings_Configured.given_groups settings_Configured.group_ok settings_Configured.configured_ok settings_Configured.group_places settings_Configured.configured_in versions_Versions.tag_taken versions_Versions.each_at versions_Versions.version_table heads_Progress.phase_from heads_Stats.tail_stats engine_Engine.engine_from engine_Engine.engine_in engine_Engine.stored queue_Queue.write_from queue_Queue.places_in queue_Queue.queue_in board_Layout.parts_in board_Board.board_from board_Board.board_in fresh_Fresh.fresh_board capi_Memory.worker_in creation_answer checks_Creation.creation_check ieee-lib.eq ieee-lib.le ieee-lib.lt ieee-lib.add ieee-lib.sub ieee-lib.mul ieee-lib.div ieee-lib.neg ieee-lib.of_int ieee-lib.round ieee-lib.to_unsigned ieee-lib.of_bits ieee-lib.to_bits
 computed = (refl, refl, refl)
 
 pub fresh_long : length fresh ≡ memory_size 3

@@ -80,16 +80,16 @@ unfoldable pub written : Worker → Answer → Told
 written W a =
     let k = W.head.progress.tag in
     let B = asking W.board (read_back_tags W.board.table.words k) in
-    cond (eqb a.kind 7) (tell (phased (with_board W B) ReadBack) (reply.readBack (length B.asked)) (tag_bytes B.asked))
-    (cond (eqb a.kind 8) (asks W RefusedTold (reply.wasRefused k a.number a.message))
-    (asks W LostTold (reply.wasLost k)))
+    cond (eqb a.kind 7) (tell (phased (with_board W B) ReadBack) (reply.read_back (length B.asked)) (tag_bytes B.asked))
+    (cond (eqb a.kind 8) (asks W RefusedTold (reply.was_refused k a.number a.message))
+    (asks W LostTold (reply.was_lost k)))
 
 -- Rule 8: the outcome, with the value read back; the results are kept until it is taken. Read-back lost: ok with null, then the connection ends.
 unfoldable pub read_back : Worker → Answer → Told
 read_back W a =
     let k = W.head.progress.tag in
-    cond (eqb a.kind 6) (asks W LostTold (reply.wentThrough k Null))
-    (asks (with_board W (kept_back W.board a.list)) OutcomeTold (reply.wentThrough k (read_back_first a.list)))
+    cond (eqb a.kind 6) (asks W LostTold (reply.went_through k Null))
+    (asks (with_board W (kept_back W.board a.list)) OutcomeTold (reply.went_through k (read_back_first a.list)))
 
 -- Rules 7 and 8: the read-back is applied once its outcome is taken, at the clock and the wall time of that moment
 unfoldable pub back_applied : Worker → At → Told

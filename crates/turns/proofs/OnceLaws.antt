@@ -15,7 +15,7 @@ use Rattle.ieee.proofs.Order.{yes}
 use Rattle.table.specs.declared.tag.Tag.{Tag}
 use Rattle.lent.specs.Lent.{tag_bytes}
 use Rattle.heads.specs.Options.{cycle_ok}
-use Rattle.rounds.specs.Round.{round as worked-round}
+use Rattle.rounds.specs.Round.{round as worked_round}
 use Rattle.queue.specs.Queue.{popped}
 use Rattle.queue.specs.declared.Popped.{Popped}
 use Rattle.queue.specs.declared.Popped.TheVariants.{Nothing, Is}

@@ -374,10 +374,10 @@ module _ (W : Worker) (v : Held W) (e : W.head.progress.phase ≡ ReadBack) (at 
 
   -- what a lost read-back is told as, and one that came
   abbrev lost : Told
-  lost = asks (clocked W at) LostTold (reply.wentThrough W.head.progress.tag Null)
+  lost = asks (clocked W at) LostTold (reply.went_through W.head.progress.tag Null)
 
   abbrev came : Told
-  came = asks (with_board (clocked W at) (kept_back W.board a.list)) OutcomeTold (reply.wentThrough W.head.progress.tag (read_back_first a.list))
+  came = asks (with_board (clocked W at) (kept_back W.board a.list)) OutcomeTold (reply.went_through W.head.progress.tag (read_back_first a.list))
 
   kept-stepped : Kept (stepped W at a)
   unfolding stepped handled read_back finished

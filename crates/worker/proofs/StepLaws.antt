@@ -169,16 +169,16 @@ written_plain W a =
     let k = W.head.progress.tag in
     let B = W.board in
     let asked = take B.table.room (read_back_tags B.table.words k) in
-    let refused = asks W RefusedTold (reply.wasRefused k a.number a.message) in
-    let lost = asks W LostTold (reply.wasLost k) in
-    both (eqb a.kind 7) (tell (phased (with_board W (with_asked B asked)) ReadBack) (reply.readBack (length asked)) (tag_bytes asked)) (cond (eqb a.kind 8) refused lost) (told _ refl)
+    let refused = asks W RefusedTold (reply.was_refused k a.number a.message) in
+    let lost = asks W LostTold (reply.was_lost k) in
+    both (eqb a.kind 7) (tell (phased (with_board W (with_asked B asked)) ReadBack) (reply.read_back (length asked)) (tag_bytes asked)) (cond (eqb a.kind 8) refused lost) (told _ refl)
     (both (eqb a.kind 8) refused lost (told _ refl) (told _ refl))
 
 back_plain : (W : Worker) (a : Answer) → Plain (read_back W a)
 unfolding read_back
 back_plain W a =
     let k = W.head.progress.tag in
-    both (eqb a.kind 6) (asks W LostTold (reply.wentThrough k Null)) (asks (with_board W (kept_back W.board a.list)) OutcomeTold (reply.wentThrough k (read_back_first a.list))) (told _ refl) (told _ refl)
+    both (eqb a.kind 6) (asks W LostTold (reply.went_through k Null)) (asks (with_board W (kept_back W.board a.list)) OutcomeTold (reply.went_through k (read_back_first a.list))) (told _ refl) (told _ refl)
 
 applied_plain : (W : Worker) (at : At) → Plain (back_applied W at)
 unfolding back_applied

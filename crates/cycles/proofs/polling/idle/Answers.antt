@@ -1,0 +1,26 @@
+-- `cycles::polling::idle` meets its contract.
+use mathlib.Core.Path.{◌≡◌}
+use mathlib.Core.Bool.{true, false}
+use lib.Ieee.{binary64, of_bits, round as rounded, le}
+use Rattle.replies.specs.Worker.{worker, at}
+use Rattle.replies.proofs.DoneLaws.{quiet_is}
+use Rattle.cycles.specs.Polling.{polls, waiting, remaining, idle}
+use Rattle.cycles.proofs.polling.idle.Goals as goal
+
+pub returns-then-p-clock : goal.returns-then-p-clock
+unfolding idle of_bits rounded
+returns-then-p-clock c B =
+    let a = c.args in
+    let W = worker a.e B in
+    let t = at a.clock a.wall in
+    let test : le (remaining W t) (rounded binary64 false 1 10000) ≡ true = c.if-p-clock.true in
+    quiet_is (polls W) (idle W t) _ B (simp test) (c.polls.ensures B)
+
+pub returns : goal.returns
+unfolding idle of_bits rounded
+returns c B =
+    let a = c.args in
+    let W = worker a.e B in
+    let t = at a.clock a.wall in
+    let test : le (remaining W t) (rounded binary64 false 1 10000) ≡ false = c.if-p-clock.false in
+    quiet_is (waiting W t) (idle W t) _ B (simp test) (c.waiting.ensures B)

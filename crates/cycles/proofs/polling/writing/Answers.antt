@@ -1,0 +1,50 @@
+-- `cycles::polling::writing` meets its contract.
+use mathlib.Core.Path.{◌≡◌, refl, ap, sym, ◌∙◌, subst}
+use lib.IntN.{ℤ}
+use mir.Val.{SFits}
+use mir.Syntax.{w64}
+use mir.Facts.{to_z-of_z}
+use Rattle.board.specs.Board.{Board, board_in}
+use Rattle.queue.specs.Queue.{popped}
+use Rattle.queue.specs.declared.Popped.TheVariants.{Nothing, Is}
+use Rattle.replies.specs.Worker.{worker, at, Done}
+use Rattle.replies.proofs.DoneLaws.{done_is, wrote_nothing}
+use Rattle.cycles.specs.Polling.{resume, writing_of, writing}
+use Rattle.cycles.proofs.PollingLaws.{none_popped}
+use Rattle.cycles.proofs.polling.writing.Goals as goal
+
+pub returns-in_default : goal.returns-in_default
+unfolding writing_of
+returns-in_default c =
+    let a = c.args in
+    let B = board_in a.board.now in
+    let W = worker a.e B in
+    let t = at a.clock a.wall in
+    let fit : SFits w64 a.wall = c.ranges.wall in
+    let p = c.pop_write in
+    let y = c.resume in
+    let none : popped B.queue ≡ Nothing = sym p.ensures.0 ∙ c.in_default.is in
+    let same : board_in p.new.b ≡ B = p.ensures.1.board ∙ none_popped B none in
+    let next = worker a.e (board_in p.new.b) in
+    done_is (resume next t a.after) (writing W t a.after) y.result y.new.board a.out.now y.new.out
+    (ap (λ (X : Board). resume (worker a.e X) t a.after) same ∙ sym (ap (writing_of W t a.after) none))
+    (subst (λ (z : ℤ). Done (resume next (at a.clock z) a.after) y.result y.new.board a.out.now y.new.out) (to_z-of_z fit) y.ensures)
+
+pub returns : goal.returns
+unfolding writing_of
+returns c =
+    let a = c.args in
+    let B = board_in a.board.now in
+    let W = worker a.e B in
+    let t = at a.clock a.wall in
+    let p = c.pop_write in
+    let w = c.in-Is.w in
+    let one : popped B.queue ≡ Is w = sym p.ensures.0 ∙ c.in-Is.is in
+    done_is (writing_of W t a.after (Is w)) (writing W t a.after) _ p.new.b a.out.now a.out.now (sym (ap (writing_of W t a.after) one))
+    (record {
+      head_is = simp (c.with_progress-head.ensures, c.with_writing-progress.ensures);
+      board_is = p.ensures.1.board;
+      reply_is = c.write-r.ensures;
+      out_is = sym (wrote_nothing a.out.now);
+      silent = λ h. refl;
+    })

@@ -1,0 +1,14 @@
+-- `replies::losing::failing` meets its contract.
+use mathlib.Core.Bool.{false≢true}
+use Rattle.replies.proofs.losing.failing.Goals as goal
+
+pub returns : goal.returns
+returns c =
+    let f = c.fail_writes-n.ensures in
+    record {
+      head_is = simp c.phased.ensures;
+      board_is = f.1.0.board;
+      reply_is = simp (c.phased.ensures, c.listed-r.ensures, f.0);
+      out_is = f.1.1;
+      silent = λ h. absurd (false≢true h);
+    }

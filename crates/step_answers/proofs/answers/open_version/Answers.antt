@@ -1,0 +1,72 @@
+-- `step_answers::answers::open_version` meets its contract.
+use mathlib.Core.Path.{◌≡◌, ap, sym, ◌∙◌}
+use mathlib.Core.Bool.{Bool, true, false, cond}
+use Rattle.heads.specs.Version.{is_reloaded}
+use Rattle.versions.specs.Versions.{version_table}
+use Rattle.heads.specs.declared.version.Version.{Version as Number}
+use Rattle.board.specs.Board.{board_in, with_records}
+use Rattle.heads.specs.Link.{with_version}
+use Rattle.heads.specs.Stats.{reloaded}
+use Rattle.heads.specs.declared.progress.Phase.TheVariants.{OpenMetaTold}
+use Rattle.engine.specs.Engine.{with_link, with_stats}
+use Rattle.engine.specs.declared.Engine.{Engine}
+use Rattle.replies.specs.Reply as reply
+use Rattle.replies.specs.Worker.{worker, said_in, asks}
+use Rattle.replies.proofs.DoneLaws.{done_is, quiet_done}
+use Rattle.step_checks.specs.Awaited.{answer}
+use Rattle.step_answers.specs.Answers.{number_of, connected, open_version}
+use Rattle.step_answers.proofs.AnswerLaws.{asked_done}
+use Rattle.step_answers.proofs.answers.open_version.Goals as goal
+
+pub shape_of-board-then-is_reloaded : goal.shape_of-board-then-is_reloaded
+shape_of-board-then-is_reloaded c = c.check_version.auto.b
+
+pub returns-then-is_reloaded : goal.returns-then-is_reloaded
+unfolding open_version
+returns-then-is_reloaded c out =
+    let a = c.args in
+    let B = board_in a.board.now in
+    let list = a.list.now in
+    let A = answer a.a list in
+    let number = number_of A in
+    let W = worker a.e B in
+    let old = a.e.link.version in
+    let new : c.number_of-new.result ≡ number = c.number_of-new.ensures list in
+    let B2 = with_records B (version_table old number true list B.table.words B.table.tags) in
+    let kept : board_in c.check_version.new.b ≡ B2 =
+    c.check_version.ensures.board ∙ ap (λ (v : Number). with_records B (version_table old v true list B.table.words B.table.tags)) new in
+    let N = worker (with_link a.e (with_version a.e.link number)) B2 in
+    let next : c.with_link-next.result ≡ N.head =
+    c.with_link-next.ensures ∙ ap (with_link a.e) (c.with_version-link.ensures ∙ ap (with_version a.e.link) new) in
+    let test : is_reloaded old number ≡ true = sym (c.is_reloaded.ensures ∙ ap (is_reloaded old) new) ∙ c.if-is_reloaded.true in
+    let E = with_stats N.head (reloaded a.e.stats) in
+    let told = asks (worker E B2) OpenMetaTold reply.meta in
+    let on = connected N in
+    let head : c.with_stats-tallied.result ≡ E =
+    c.with_stats-tallied.ensures ∙ ap (λ (x : Engine). with_stats x c.reloaded-stats.result) next ∙ ap (with_stats N.head) c.reloaded-stats.ensures in
+    let said = c.phased.ensures ∙ ap (λ (x : Engine). said_in x OpenMetaTold c.listed-r.result) head ∙ ap (said_in E OpenMetaTold) c.listed-r.ensures in
+    done_is told (open_version W A) _ _ _ _ (ap (λ (b : Bool). cond b told on) (sym test)) (asked_done E B2 OpenMetaTold reply.meta _ _ out said kept)
+
+pub returns : goal.returns
+unfolding open_version
+returns c out =
+    let a = c.args in
+    let B = board_in a.board.now in
+    let list = a.list.now in
+    let A = answer a.a list in
+    let number = number_of A in
+    let W = worker a.e B in
+    let old = a.e.link.version in
+    let new : c.number_of-new.result ≡ number = c.number_of-new.ensures list in
+    let B2 = with_records B (version_table old number true list B.table.words B.table.tags) in
+    let kept : board_in c.check_version.new.b ≡ B2 =
+    c.check_version.ensures.board ∙ ap (λ (v : Number). with_records B (version_table old v true list B.table.words B.table.tags)) new in
+    let N = worker (with_link a.e (with_version a.e.link number)) B2 in
+    let next : c.with_link-next.result ≡ N.head =
+    c.with_link-next.ensures ∙ ap (with_link a.e) (c.with_version-link.ensures ∙ ap (with_version a.e.link) new) in
+    let test : is_reloaded old number ≡ false = sym (c.is_reloaded.ensures ∙ ap (is_reloaded old) new) ∙ c.if-is_reloaded.false in
+    let E = with_stats N.head (reloaded a.e.stats) in
+    let told = asks (worker E B2) OpenMetaTold reply.meta in
+    let on = connected N in
+    done_is (connected (worker c.with_link-next.result B2)) (open_version W A) _ _ _ _ (ap (λ (x : Engine). connected (worker x B2)) next ∙ ap (λ (b : Bool). cond b told on) (sym test))
+    (quiet_done (connected (worker c.with_link-next.result B2)) _ B2 _ out (c.connected.ensures B2) kept)
