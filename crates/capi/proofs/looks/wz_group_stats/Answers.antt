@@ -1,0 +1,26 @@
+-- `capi::looks::wz_group_stats` meets its contract.
+use mathlib.Core.Path.{sym, ◌∙◌}
+use Prim.Native.Nat.{◌/◌}
+use lib.ListN.{length}
+use Rattle.lent.specs.Lent.{cell_bytes, wrote_all}
+use Rattle.capi.specs.Memory.{worker_in}
+use Rattle.capi.specs.Looks.{group_cells, group_count}
+use Rattle.capi.proofs.LookLaws.{list_alien, list_own}
+use Rattle.capi.proofs.looks.wz_group_stats.Goals as goal
+
+pub returns-then-size_check-ne0 : goal.returns-then-size_check-ne0
+returns-then-size_check-ne0 c =
+    let mem = c.args.mem.now in
+    let out = c.args.out.now in
+    let W = worker_in mem in
+    list_alien mem (length out / 40) 16 (group_count W out) out (wrote_all out (cell_bytes (group_cells W))) c.listed.result (λ g. c.if-size_check-ne0.true (c.size_check.ensures ∙ g)) c.listed.ensures
+
+pub returns : goal.returns
+unfolding worker_in
+returns c =
+    let mem = c.args.mem.now in
+    let out = c.args.out.now in
+    let W = worker_in mem in
+    let call = c.group_stats in
+    let same = c.board_of.ensures.1 in
+    list_own mem (length out / 40) 16 (group_count W out) out call.new.out (wrote_all out (cell_bytes (group_cells W))) call.result (sym c.size_check.ensures ∙ c.if-size_check-ne0.false) (rw same at call.ensures.value) (rw same at call.ensures.out_after)
