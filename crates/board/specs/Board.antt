@@ -1,5 +1,5 @@
 -- The table and the board that lent memory holds, and each with one part replaced.
-use Rattle.std.specs.Prelude.{Bool, not, List, [], ◌∷◌, ◌≡◌, ℕ, eqb, get_or, set}
+use Rattle.std.specs.Prelude.{Bool, not, List, ◌≡◌, ℕ, eqb, get_or, set}
 use Rattle.memory.specs.Halves.{halves_in}
 use Rattle.tags.specs.Lists.{list_in, room, fitted}
 use Rattle.table.specs.Tag.{fresh_tag}

@@ -1,6 +1,8 @@
 // The board: all that an engine keeps beside its head, in one slice of lent memory, whose length says how many tags it is
 // for. Functions here get or put one thing; each lends one part in its place, as the last thing that it does. Rules are
 // written over them.
+#![tactic(auto)]
+
 pub mod parts; // parts handed out to read
 pub mod recording; // rules 6 and 10: what is recorded of groups
 pub mod starts; // where the parts begin

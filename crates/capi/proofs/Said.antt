@@ -5,6 +5,7 @@ use mathlib.Core.List.{List}
 use Prim.Native.Nat.{ℕ}
 use contract.Lifetimes.{Lfts}
 use denote.Ref.{Bor}
+use denote.MutBor.{MutBor}
 use lib.Ieee.{Float}
 use lib.IntN.{ℤ}
 use lib.ListN.{length}
@@ -66,28 +67,28 @@ stepped_said old new r out out' T h = (h.alien, h.reply_is, h.left_is, h.out_is,
 abbrev setup : List ℕ → List ℕ → Options → List ℕ → List ℕ → Setup
 setup names ends options settings groups = record { names = names; ends = ends; options = options; settings = settings; groups = groups }
 
-pub create_said : (κs : Lfts 4) (mem mem' names ends settings groups : Bor (List ℕ)) (options : Options) (r : ℕ)
+pub create_said : (κs : Lfts 4) (mem mem' : MutBor (List ℕ)) (names ends settings groups : Bor (List ℕ)) (options : Options) (r : ℕ)
     → create-contract.Learnt κs (mem, (names, (ends, (options, (settings, (groups, tt)))))) r (mem', (names, (ends, (options, (settings, (groups, tt))))))
     → Created mem.now mem'.now r (setup names.now ends.now options settings.now groups.now)
 create_said κs mem mem' names ends settings groups options r h = h
 
-pub tier_said : (κs : Lfts 1) (mem mem' : Bor (List ℕ)) (clock : Float) (tag to r : ℕ) → tier-contract.Learnt κs (mem, (clock, (tag, (to, tt)))) r (mem', (clock, (tag, (to, tt))))
+pub tier_said : (κs : Lfts 1) (mem mem' : MutBor (List ℕ)) (clock : Float) (tag to r : ℕ) → tier-contract.Learnt κs (mem, (clock, (tag, (to, tt)))) r (mem', (clock, (tag, (to, tt))))
     → Called mem.now mem'.now r (tier_check (worker_in mem.now) clock tag to) (tiered (worker_in mem.now) clock tag to)
 tier_said κs mem mem' clock tag to r h = h
 
-pub load_said : (κs : Lfts 2) (mem mem' list : Bor (List ℕ)) (clock : Float) (r : ℕ) → load-contract.Learnt κs (mem, (clock, (list, tt))) r (mem', (clock, (list, tt)))
+pub load_said : (κs : Lfts 2) (mem mem' : MutBor (List ℕ)) (list : Bor (List ℕ)) (clock : Float) (r : ℕ) → load-contract.Learnt κs (mem, (clock, (list, tt))) r (mem', (clock, (list, tt)))
     → Called mem.now mem'.now r (load_check (worker_in mem.now) clock list.now) (loaded (worker_in mem.now) clock list.now)
 load_said κs mem mem' list clock r h = h
 
-pub write_said : (κs : Lfts 1) (mem mem' : Bor (List ℕ)) (tag kind word r : ℕ) → write-contract.Learnt κs (mem, (tag, (kind, (word, tt)))) r (mem', (tag, (kind, (word, tt))))
+pub write_said : (κs : Lfts 1) (mem mem' : MutBor (List ℕ)) (tag kind word r : ℕ) → write-contract.Learnt κs (mem, (tag, (kind, (word, tt)))) r (mem', (tag, (kind, (word, tt))))
     → Called mem.now mem'.now r (write_check (worker_in mem.now) tag (value_from kind word)) (wrote (worker_in mem.now) tag (value_from kind word))
 write_said κs mem mem' tag kind word r h = h
 
-pub stop_said : (κs : Lfts 1) (mem mem' : Bor (List ℕ)) (r : ℕ) → stop-contract.Learnt κs (mem, tt) r (mem', tt)
+pub stop_said : (κs : Lfts 1) (mem mem' : MutBor (List ℕ)) (r : ℕ) → stop-contract.Learnt κs (mem, tt) r (mem', tt)
     → Called mem.now mem'.now r 0 (halted (worker_in mem.now))
 stop_said κs mem mem' r h = h
 
-pub step_said : (κs : Lfts 3) (mem mem' list out out' : Bor (List ℕ)) (clock : Float) (wall : ℤ) (kind number message : ℕ) (r : Reply)
+pub step_said : (κs : Lfts 3) (mem mem' : MutBor (List ℕ)) (list : Bor (List ℕ)) (out out' : MutBor (List ℕ)) (clock : Float) (wall : ℤ) (kind number message : ℕ) (r : Reply)
     → step-contract.Learnt κs (mem, (clock, (wall, (kind, (number, (message, (list, (out, tt)))))))) r (mem', (clock, (wall, (kind, (number, (message, (list, (out', tt))))))))
     → Stepped mem.now mem'.now r out.now out'.now (step (worker_in mem.now) (at clock wall) (answer_of kind number message list.now) (length out.now))
 step_said κs mem mem' list out out' clock wall kind number message r h = h
@@ -103,20 +104,20 @@ stats_said κs mem r h = h
 pub counts_said : (κs : Lfts 1) (mem : Bor (List ℕ)) (r : CountsLook) → counts-contract.Learnt κs (mem, tt) r (mem, tt) → r ≡ counts_look mem.now
 counts_said κs mem r h = h
 
-pub groups_said : (κs : Lfts 2) (mem out out' : Bor (List ℕ)) (r : ListLook) → groups-contract.Learnt κs (mem, (out, tt)) r (mem, (out', tt))
+pub groups_said : (κs : Lfts 2) (mem : Bor (List ℕ)) (out out' : MutBor (List ℕ)) (r : ListLook) → groups-contract.Learnt κs (mem, (out, tt)) r (mem, (out', tt))
     → (r ≡ listed (group_check mem.now out.now) (group_count (worker_in mem.now) out.now))
     × (out'.now ≡ left_in (group_check mem.now out.now) out.now (group_cells (worker_in mem.now)))
-groups_said κs mem out out' r h = h
+groups_said κs mem out out' r h = (h.0, h.1)
 
-pub table_said : (κs : Lfts 2) (mem out out' : Bor (List ℕ)) (r : ListLook) → table-contract.Learnt κs (mem, (out, tt)) r (mem, (out', tt))
+pub table_said : (κs : Lfts 2) (mem : Bor (List ℕ)) (out out' : MutBor (List ℕ)) (r : ListLook) → table-contract.Learnt κs (mem, (out, tt)) r (mem, (out', tt))
     → (r ≡ listed (table_check mem.now out.now) (table_count (worker_in mem.now) out.now))
     × (out'.now ≡ left_in (table_check mem.now out.now) out.now (records (row_cells (worker_in mem.now).board) (worker_in mem.now).board.table.order))
-table_said κs mem out out' r h = h
+table_said κs mem out out' r h = (h.0, h.1)
 
-pub panel_said : (κs : Lfts 2) (mem out out' : Bor (List ℕ)) (r : ListLook) → panel-contract.Learnt κs (mem, (out, tt)) r (mem, (out', tt))
+pub panel_said : (κs : Lfts 2) (mem : Bor (List ℕ)) (out out' : MutBor (List ℕ)) (r : ListLook) → panel-contract.Learnt κs (mem, (out, tt)) r (mem, (out', tt))
     → (r ≡ listed (panel_code mem.now out.now) (panel_count (worker_in mem.now) out.now))
     × (out'.now ≡ panel_left (panel_code mem.now out.now) out.now (panel_bytes (worker_in mem.now)))
-panel_said κs mem out out' r h = h
+panel_said κs mem out out' r h = (h.0, h.1)
 
 pub tag_said : (κs : Lfts 1) (mem : Bor (List ℕ)) (tag : ℕ) (r : TagLook) → tag-contract.Learnt κs (mem, (tag, tt)) r (mem, (tag, tt)) → r ≡ tag_look mem.now tag
 tag_said κs mem tag r h = h

@@ -1,4 +1,6 @@
 // The head of an engine: what it keeps beside its board. It is one row of lent memory.
+#![tactic(auto)]
+
 pub mod codec;
 
 ghost use Rattle.std.specs.Prelude.{◌≡◌};

@@ -1,4 +1,6 @@
 // The entries of the tag at k, cached and published: six words of its row each.
+#![tactic(auto)]
+
 ghost use Rattle.std.specs.Prelude.{◌≡◌, get_or, set, ◌<◌};
 ghost use Rattle.memory.specs.Cells.{rows_in, no_row};
 ghost use Rattle.words.specs.Entry.{held_from};

@@ -1,4 +1,6 @@
 // Parts of the tag at k, read and written with no more of its row than they need; `entries` has its two entries.
+#![tactic(auto)]
+
 ghost use Rattle.std.specs.Prelude.{◌≡◌, get_or, set};
 ghost use Rattle.table.specs.Tag.{fresh_tag};
 ghost use Rattle.table.specs.Table.{table_in, with_last, with_mark, with_added, with_wants, with_description, with_after, with_standing, without_last};

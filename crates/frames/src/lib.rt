@@ -1,5 +1,7 @@
 // Frames of recorded answers: their numbers and lists, how an answer is compared with its frame, and what is written about it.
 // What the calls are, `replay` knows.
+#![tactic(auto)]
+
 pub mod answer; // what a call answered, compared with what was recorded
 pub mod compare; // two lists, and lists of one byte
 pub mod counts; // how far a replay has come

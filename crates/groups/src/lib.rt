@@ -1,5 +1,7 @@
 // What is recorded of each group as its tags are read: rules 6 and 10. Eight cells for each group, the last three of
 // them spare, and beside them the groups in the order of their first reading.
+#![tactic(auto)]
+
 pub mod group;
 
 ghost use Rattle.std.specs.Prelude.{◌≡◌, get_or, set};

@@ -1,5 +1,7 @@
 // What the head of an engine is made of: its options, the connection and its version, how far the engine and its rounds
 // have come, and the statistics of these.
+#![tactic(auto)]
+
 pub mod cycle;
 pub mod link;
 pub mod options;

@@ -1,1 +1,3 @@
+#![tactic(auto)]
+
 // Memory in parts, one after the other: definitions and laws alone.

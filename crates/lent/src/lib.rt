@@ -1,5 +1,7 @@
 // Lists that a host lends for writing: records one after the other, each of some cells of eight bytes, or tags of two bytes. What is
 // written and what keeps its contents is said to the byte.
+#![tactic(auto)]
+
 pub mod changes;
 
 ghost use Rattle.std.specs.Prelude.{◌≡◌};

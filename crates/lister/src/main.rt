@@ -1,4 +1,8 @@
 // The round lister: document 01's program, here on document 01's example.
-fn main() {
-    stream::list_rounds();
+#![tactic(auto)]
+
+use std::io;
+
+fn main(rt: HostRuntime) -> io::Result<()> {
+    stream::list_rounds(&rt)
 }

@@ -1,4 +1,8 @@
 // The round lister on stored input: a line with two spaces ends the listing.
-fn main() {
-    stream::list_rounds();
+#![tactic(auto)]
+
+use std::io;
+
+fn main(rt: HostRuntime) -> io::Result<()> {
+    stream::list_rounds(&rt)
 }

@@ -1,4 +1,8 @@
 // The round lister on stored input: the last line has no line feed, so it is of another form.
-fn main() {
-    stream::list_rounds();
+#![tactic(auto)]
+
+use std::io;
+
+fn main(rt: HostRuntime) -> io::Result<()> {
+    stream::list_rounds(&rt)
 }

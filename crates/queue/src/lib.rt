@@ -1,5 +1,7 @@
 // The queue of writes in lent memory: a cell for the count, then three cells for each place: the tag, the value's kind
 // and its bits. Any bytes are some queue.
+#![tactic(auto)]
+
 ghost use Rattle.std.specs.Prelude.{◌≡◌, [], ◌-◌, length, get_or, set, take};
 ghost use Rattle.tags.specs.Lists.{list_in, room, fitted};
 ghost use Rattle.queue.specs.Queue.{no_write, queue_room, places_in, queue_in, queued_with, popped, rest, write_tags};

@@ -1,4 +1,6 @@
 // A tag taken out of a list, wherever it stands.
+#![tactic(auto)]
+
 ghost use Rattle.std.specs.Prelude.{◌≡◌, suc, ◌<◌, ◌++◌, length, take, drop};
 ghost use Rattle.lists.specs.Keep.{without};
 ghost use Rattle.tags.specs.Lists.{list_in};

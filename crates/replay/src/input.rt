@@ -5,31 +5,41 @@ use frames::counts::Counts;
 use frames::numbers::{eight, four};
 use frames::report;
 use lent::changes::CHANGE;
-use libc::STDIN_FILENO;
 use names::directory::MAX_NAMES;
+use std::io;
+use std::io::{ErrorKind, Read};
 
 // The last frame, with the number of histories and of calls.
 const END: u8 = 14;
 
+// Fills the buffer; false where the input ends before.
+fn read_full(from: &mut impl Read, buffer: &mut [u8]) -> io::Result<bool> {
+    match from.read_exact(buffer) {
+        Ok(()) => Ok(true),
+        Err(e) if e.kind() == ErrorKind::UnexpectedEof => Ok(false),
+        Err(e) => Err(e),
+    }
+}
+
 // Reads a frame to the front of `room`: its length, or 0 where there is no whole one.
-fn read_frame(room: &mut [u8]) -> usize {
+fn read_frame(from: &mut impl Read, room: &mut [u8]) -> io::Result<usize> {
     let mut length = [0u8; 4];
-    if io::read_full(STDIN_FILENO, &mut length) != 4 {
-        return 0;
+    if !read_full(from, &mut length)? {
+        return Ok(0);
     }
     let n = four(&length, 0);
     if room.len() < n {
-        return 0;
+        return Ok(0);
     }
-    if io::read_full(STDIN_FILENO, &mut room[0..n]) != n {
-        return 0;
+    if !read_full(from, &mut room[0..n])? {
+        return Ok(0);
     }
-    n
+    Ok(n)
 }
 
-fn at_end() -> bool {
+fn at_end(from: &mut impl Read) -> io::Result<bool> {
     let mut more = [0u8; 1];
-    io::read_full(STDIN_FILENO, &mut more) == 0
+    Ok(!read_full(from, &mut more)?)
 }
 
 #[derive(Clone, Copy)]
@@ -39,56 +49,76 @@ enum Next {
 }
 
 // The last frame: all that was recorded has been replayed, and nothing is behind it.
-fn end(c: Counts, frame: &[u8]) {
+fn end(rt: &impl Print, from: &mut impl Read, c: Counts, frame: &[u8]) -> io::Result<()> {
     if eight(frame, 1) != c.histories {
-        return report::uneven(c);
+        return report::uneven(rt, c);
     }
     if eight(frame, 9) != c.calls {
-        return report::uneven(c);
+        return report::uneven(rt, c);
     }
-    if !at_end() {
-        return report::uneven(c);
+    if !at_end(from)? {
+        return report::uneven(rt, c);
     }
-    report::done(c);
+    report::done(rt, c)
 }
 
-fn take_frame(c: Counts, op: u8, frame: &[u8], mem: &mut [u8], out: &mut [u8]) -> Next {
+fn take_frame(
+    rt: &impl Print,
+    from: &mut impl Read,
+    c: Counts,
+    op: u8,
+    frame: &[u8],
+    mem: &mut [u8],
+    out: &mut [u8],
+) -> io::Result<Next> {
     if op == END {
-        end(c, frame);
-        return Next::End;
+        end(rt, from, c, frame)?;
+        return Ok(Next::End);
     }
     let d = c.next(op);
     let f = take(frame, mem, out);
     let Found::Same(n) = f else {
-        report::differs(d, op, f);
-        return Next::End;
+        report::differs(rt, d, op, f)?;
+        return Ok(Next::End);
     };
-    Next::On(d.compared(n))
+    Ok(Next::On(d.compared(n)))
 }
 
-fn take_next(c: Counts, room: &mut [u8], mem: &mut [u8], out: &mut [u8]) -> Next {
-    let n = read_frame(room);
+fn take_next(
+    rt: &impl Print,
+    from: &mut impl Read,
+    c: Counts,
+    room: &mut [u8],
+    mem: &mut [u8],
+    out: &mut [u8],
+) -> io::Result<Next> {
+    let n = read_frame(from, room)?;
     if room.len() < n {
-        return Next::End;
+        return Ok(Next::End);
     }
     if n == 0 {
-        report::cut(c);
-        return Next::End;
+        report::cut(rt, c)?;
+        return Ok(Next::End);
     }
-    take_frame(c, room[0], &room[0..n], mem, out)
+    take_frame(rt, from, c, room[0], &room[0..n], mem, out)
 }
 
 // A proved loop has to end, and nothing says that the input does: the turns are more than any run has.
-fn take_all(room: &mut [u8], mem: &mut [u8], out: &mut [u8]) {
+fn take_all(
+    rt: &impl Print,
+    from: &mut impl Read,
+    room: &mut [u8],
+    mem: &mut [u8],
+    out: &mut [u8],
+) -> io::Result<()> {
     let mut c = Counts::new();
-    let mut turns = u64::MAX;
-    while 0 < turns {
-        let Next::On(d) = take_next(c, room, mem, out) else {
-            return;
+    for _ in 0..u64::MAX {
+        let Next::On(d) = take_next(rt, from, c, room, mem, out)? else {
+            return Ok(());
         };
         c = d;
-        turns -= 1;
     }
+    Ok(())
 }
 
 // Room for a frame, for an engine and some bytes more, and for the longest list and some bytes more.
@@ -98,9 +128,11 @@ const MEMORY: usize = 38408;
 
 const LIST: usize = MAX_NAMES * CHANGE + 8;
 
-pub fn replay() {
+// The first read or write that fails ends the replay.
+pub fn replay(rt: &(impl Input + Print)) -> io::Result<()> {
+    let mut from = rt.reader();
     let mut room = [0u8; ROOM];
     let mut mem = [0u8; MEMORY];
     let mut out = [0u8; LIST];
-    take_all(&mut room, &mut mem, &mut out);
+    take_all(rt, &mut from, &mut room, &mut mem, &mut out)
 }

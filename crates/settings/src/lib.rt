@@ -1,4 +1,6 @@
 // What the host sets: the settings of the tags and the configured groups, lent as records of cells. Check 14.
+#![tactic(auto)]
+
 pub mod configured;
 pub mod range;
 pub mod setting;

@@ -8,11 +8,11 @@ use board::starts::size_for;
 use heads::cycle::Cycle;
 use heads::options::Options;
 use ieee::times::{is_clock, seconds};
-use libc::STDOUT_FILENO;
 use listing::line::Line;
 use listing::write::put_line;
 use names::directory::MAX_NAMES;
 use rounds::round::cycle_tags;
+use std::io;
 use tiers::grace::set_tier;
 
 // `s`: time, tag and tier are checked in this order.
@@ -42,66 +42,81 @@ fn take_set(s: State, ms: u64, tag: u64, tier: u64, b: &mut [u8]) -> Next
 const LINE: usize = 1024;
 
 // Works out one round, reads nothing, and prints its line.
-fn print_round(b: &mut [u8], o: Options, c: Cycle, ms: u64, clock: f64) -> Cycle
+fn print_round(
+    rt: &impl Print,
+    b: &mut [u8],
+    o: Options,
+    c: Cycle,
+    ms: u64,
+    clock: f64,
+) -> io::Result<Cycle>
     requires { IsBoard b.old }
 {
     let r = cycle_tags(b, o, c, clock);
     let mut line = [0u8; LINE];
     let n = put_line(&mut line, ms, r.boundary, asked_of(b));
     if n <= LINE {
-        io::write_all(STDOUT_FILENO, &line[0..n]);
+        rt.write_all(&line[0..n])?;
     }
-    r.cycle
+    Ok(r.cycle)
 }
 
 // `c`: a round.
-fn take_round(s: State, ms: u64, b: &mut [u8]) -> Next
+fn take_round(rt: &impl Print, s: State, ms: u64, b: &mut [u8]) -> io::Result<Next>
     requires { IsBoard b.old }
 {
     let clock = seconds(ms);
     if !is_clock(clock) {
-        return Next::End;
+        return Ok(Next::End);
     }
     if clock < s.clock {
-        return Next::End;
+        return Ok(Next::End);
     }
     let o = s.options;
     let c = s.cycle;
-    let after = print_round(b, o, c, ms, clock);
-    Next::On(s.at(clock, after))
+    let after = print_round(rt, b, o, c, ms, clock)?;
+    Ok(Next::On(s.at(clock, after)))
 }
 
-fn call<'a>(s: State, line: Line, buffer: &'a [u8], ends: &'a [u32], b: &mut [u8]) -> Next
+fn call<'a>(
+    rt: &impl Print,
+    s: State,
+    line: Line,
+    buffer: &'a [u8],
+    ends: &'a [u32],
+    b: &mut [u8],
+) -> io::Result<Next>
     requires { IsBoard b.old }
 {
     let Next::On(ready) = begin(s, buffer, ends, b) else {
-        return Next::End;
+        return Ok(Next::End);
     };
     match line {
-        Line::Set(ms, tag, tier) => take_set(ready, ms, tag, tier, b),
-        Line::Round(ms) => take_round(ready, ms, b),
-        _ => Next::End,
+        Line::Set(ms, tag, tier) => Ok(take_set(ready, ms, tag, tier, b)),
+        Line::Round(ms) => take_round(rt, ready, ms, b),
+        _ => Ok(Next::End),
     }
 }
 
 // `s` or `c`. The board for as many tags as there are names stands at the front of the memory.
 pub fn take_call<'a>(
+    rt: &impl Print,
     s: State,
     line: Line,
     buffer: &'a [u8],
     ends: &'a [u32],
     mem: &mut [u8],
-) -> Next {
+) -> io::Result<Next> {
     let count = s.count;
     if count == 0 {
-        return Next::End;
+        return Ok(Next::End);
     }
     if MAX_NAMES < count {
-        return Next::End;
+        return Ok(Next::End);
     }
     let size = size_for(count);
     if mem.len() < size {
-        return Next::End;
+        return Ok(Next::End);
     }
-    call(s, line, buffer, ends, &mut mem[0..size])
+    call(rt, s, line, buffer, ends, &mut mem[0..size])
 }

@@ -2,9 +2,10 @@
 use super::calls::take_call;
 use super::setup::{take_name, take_options};
 use super::state::{Next, State};
-use libc::STDIN_FILENO;
 use listing::line::{Line, parse};
 use names::directory::{MAX_NAME_LENGTH, MAX_NAMES};
+use std::io;
+use std::io::Read;
 
 // The longest line of any form has 49 bytes.
 const LINE: usize = 64;
@@ -16,13 +17,20 @@ const NAMES: usize = MAX_NAMES * MAX_NAME_LENGTH;
 const BOARD: usize = 34806;
 
 // What a whole line does.
-fn take_line(s: State, line: &[u8], buffer: &mut [u8], ends: &mut [u32], mem: &mut [u8]) -> Next {
+fn take_line(
+    rt: &impl Print,
+    s: State,
+    line: &[u8],
+    buffer: &mut [u8],
+    ends: &mut [u32],
+    mem: &mut [u8],
+) -> io::Result<Next> {
     let l = parse(line);
     match l {
-        Line::Options(cycle, period, grace) => take_options(s, cycle, period, grace),
-        Line::Name => take_name(s, line, buffer, ends),
-        Line::Other => Next::End,
-        _ => take_call(s, l, buffer, ends, mem),
+        Line::Options(cycle, period, grace) => Ok(take_options(s, cycle, period, grace)),
+        Line::Name => Ok(take_name(s, line, buffer, ends)),
+        Line::Other => Ok(Next::End),
+        _ => take_call(rt, s, l, buffer, ends, mem),
     }
 }
 
@@ -35,6 +43,7 @@ enum Step {
 
 // One byte more, where `n` bytes of its line are in `line` already.
 fn take_byte(
+    rt: &impl Print,
     s: State,
     n: usize,
     b: u8,
@@ -42,22 +51,23 @@ fn take_byte(
     buffer: &mut [u8],
     ends: &mut [u32],
     mem: &mut [u8],
-) -> Step {
+) -> io::Result<Step> {
     if line.len() <= n {
-        return Step::End;
+        return Ok(Step::End);
     }
     if b != b'\n' {
         line[n] = b;
-        return Step::On(s, n + 1);
+        return Ok(Step::On(s, n + 1));
     }
-    let Next::On(next) = take_line(s, &line[0..n], buffer, ends, mem) else {
-        return Step::End;
+    let Next::On(next) = take_line(rt, s, &line[0..n], buffer, ends, mem)? else {
+        return Ok(Step::End);
     };
-    Step::On(next, 0)
+    Ok(Step::On(next, 0))
 }
 
 // The bytes of a piece; `have` bytes of its first line are in `line` already.
 fn take_piece(
+    rt: &impl Print,
     start: State,
     have: usize,
     piece: &[u8],
@@ -65,23 +75,23 @@ fn take_piece(
     buffer: &mut [u8],
     ends: &mut [u32],
     mem: &mut [u8],
-) -> Step {
+) -> io::Result<Step> {
     let mut s = start;
     let mut n = have;
-    let mut i: usize = 0;
-    while i < piece.len() {
-        let Step::On(next, m) = take_byte(s, n, piece[i], line, buffer, ends, mem) else {
-            return Step::End;
+    for b in piece {
+        let Step::On(next, m) = take_byte(rt, s, n, *b, line, buffer, ends, mem)? else {
+            return Ok(Step::End);
         };
         s = next;
         n = m;
-        i += 1;
     }
-    Step::On(s, n)
+    Ok(Step::On(s, n))
 }
 
 // One read. At the end of the input there is nothing more to do: a line without its line feed is of another form.
 fn read_some(
+    rt: &impl Print,
+    from: &mut impl Read,
     s: State,
     have: usize,
     piece: &mut [u8],
@@ -89,44 +99,54 @@ fn read_some(
     buffer: &mut [u8],
     ends: &mut [u32],
     mem: &mut [u8],
-) -> Step {
-    let got = libc::read(STDIN_FILENO, piece);
-    let n = io::count(got, piece);
+) -> io::Result<Step> {
+    let n = from.read(piece)?;
     if n == 0 {
-        return Step::End;
+        return Ok(Step::End);
     }
-    take_piece(s, have, &piece[0..n], line, buffer, ends, mem)
+    take_piece(rt, s, have, &piece[0..n], line, buffer, ends, mem)
 }
 
 // A proved loop has to end, and nothing says that the input does: the turns are more than any run has.
 fn read_all(
+    rt: &impl Print,
+    from: &mut impl Read,
     start: State,
     piece: &mut [u8],
     line: &mut [u8],
     buffer: &mut [u8],
     ends: &mut [u32],
     mem: &mut [u8],
-) {
+) -> io::Result<()> {
     let mut s = start;
     let mut n: usize = 0;
-    let mut turns = u64::MAX;
-    while 0 < turns {
-        let Step::On(next, m) = read_some(s, n, piece, line, buffer, ends, mem) else {
-            return;
+    for _ in 0..u64::MAX {
+        let Step::On(next, m) = read_some(rt, from, s, n, piece, line, buffer, ends, mem)? else {
+            return Ok(());
         };
         s = next;
         n = m;
-        turns -= 1;
     }
+    Ok(())
 }
 
 // The memory of a listing, all zero at the start.
-pub fn read_input() {
+pub fn read_input(rt: &(impl Input + Print)) -> io::Result<()> {
+    let mut from = rt.reader();
     let mut piece = [0u8; 4096];
     let mut line = [0u8; LINE];
     let mut buffer = [0u8; NAMES];
     let mut ends = [0u32; MAX_NAMES];
     let mut mem = [0u8; BOARD];
     let s = State::new();
-    read_all(s, &mut piece, &mut line, &mut buffer, &mut ends, &mut mem);
+    read_all(
+        rt,
+        &mut from,
+        s,
+        &mut piece,
+        &mut line,
+        &mut buffer,
+        &mut ends,
+        &mut mem,
+    )
 }

@@ -34,15 +34,13 @@ pub fn take_options(s: State, cycle: u64, period: u64, grace: u64) -> Next {
 
 // The bytes of `line` after its first two, at place `used` of `buffer`; false where there is no room.
 fn copy_name(line: &[u8], buffer: &mut [u8], used: usize) -> bool {
-    let mut i: usize = 2;
     let mut to = used;
-    while i < line.len() {
+    for b in line.iter().skip(2) {
         if buffer.len() <= to {
             return false;
         }
-        buffer[to] = line[i];
+        buffer[to] = *b;
         to += 1;
-        i += 1;
     }
     true
 }

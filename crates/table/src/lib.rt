@@ -1,4 +1,6 @@
 // The record of a tag, and the table of tags in lent memory: a row of 32 cells for each tag.
+#![tactic(auto)]
+
 pub mod codec;
 pub mod tag;
 

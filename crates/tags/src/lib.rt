@@ -1,4 +1,6 @@
 // Lists of tag numbers in halves: the count, then the places. Any bytes are some list.
+#![tactic(auto)]
+
 ghost use Rattle.std.specs.Prelude.{◌≡◌, [], ◌%◌, length, get_or, take};
 ghost use Rattle.tags.specs.Lists.{list_in, room, pushed, inserted_at, member};
 

@@ -100,7 +100,7 @@ module _ (at : At) (f : T (finite at.clock)) where
   module _ (W : Worker) (c : cycle_ok W.head.options.cycle ≡ true) (r : Rated W.board.table.tags)
       (last : W.head.cycle.begun ≡ true → T (finite W.head.cycle.last) × T (le W.head.cycle.last at.clock)) where
     begun_worked : Begun (with_worked W at (round_at W at))
-    unfolding worked-round
+    unfolding worked_round
     begun_worked = record {
       start_now = refl;
       tick_good = go (cycle_cases W.head.options.cycle c);

@@ -1,9 +1,10 @@
 -- The contracts of the entry points, by call. `Learnt` of an entry point's `Reads` is the reading of its `ensures`: at the lifetimes, the arguments, the result,
--- and the parameters at exit. A lent slice is a reference (`RefT`); what stands behind it is its `now`. `Asked` is the reading of the `requires`.
+-- and the parameters at exit. A lent slice is a reference (`Bor`, and `MutBor` where it may be written); what stands behind it is its `now`. `Asked` is the reading of the `requires`.
 -- The engine's memory holds `old` before and `new` after a call; `out` is a lent list before and `out'` after it.
 use Rattle.std.specs.Prelude.{◌≡◌, List, ℕ, Float, ℤ}
 use contract.Lifetimes.{Lfts}
 use Rattle.std.specs.Borrow.{Bor}
+use denote.MutBor.{MutBor}
 use Rattle.replies.specs.declared.reply.Reply.{Reply}
 use Rattle.shown.specs.declared.head.StateLook.{StateLook}
 use Rattle.shown.specs.declared.head.StatsLook.{StatsLook}
@@ -34,8 +35,8 @@ pub record CreateMet (s : Setup) (old new : List ℕ) (r : ℕ) : Type 0 where
   pub ends : Bor (List ℕ)
   pub settings : Bor (List ℕ)
   pub groups : Bor (List ℕ)
-  pub mem : Bor (List ℕ)
-  pub mem_exit : Bor (List ℕ)
+  pub mem : MutBor (List ℕ)
+  pub mem_exit : MutBor (List ℕ)
   pub names_is : names.now ≡ s.names
   pub ends_is : ends.now ≡ s.ends
   pub settings_is : settings.now ≡ s.settings
@@ -46,8 +47,8 @@ pub record CreateMet (s : Setup) (old new : List ℕ) (r : ℕ) : Type 0 where
 
 pub record TierMet (old new : List ℕ) (clock : Float) (tag to r : ℕ) : Type 0 where
   pub lifetimes : Lfts 1
-  pub mem : Bor (List ℕ)
-  pub mem_exit : Bor (List ℕ)
+  pub mem : MutBor (List ℕ)
+  pub mem_exit : MutBor (List ℕ)
   pub mem_is : mem.now ≡ old
   pub mem_left : mem_exit.now ≡ new
   pub met : tier-contract.Learnt lifetimes (mem, (clock, (tag, (to, tt)))) r (mem_exit, (clock, (tag, (to, tt))))
@@ -55,8 +56,8 @@ pub record TierMet (old new : List ℕ) (clock : Float) (tag to r : ℕ) : Type 
 pub record LoadMet (old new : List ℕ) (clock : Float) (list : List ℕ) (r : ℕ) : Type 0 where
   pub lifetimes : Lfts 2
   pub given : Bor (List ℕ)
-  pub mem : Bor (List ℕ)
-  pub mem_exit : Bor (List ℕ)
+  pub mem : MutBor (List ℕ)
+  pub mem_exit : MutBor (List ℕ)
   pub given_is : given.now ≡ list
   pub mem_is : mem.now ≡ old
   pub mem_left : mem_exit.now ≡ new
@@ -64,16 +65,16 @@ pub record LoadMet (old new : List ℕ) (clock : Float) (list : List ℕ) (r : �
 
 pub record WriteMet (old new : List ℕ) (tag kind word r : ℕ) : Type 0 where
   pub lifetimes : Lfts 1
-  pub mem : Bor (List ℕ)
-  pub mem_exit : Bor (List ℕ)
+  pub mem : MutBor (List ℕ)
+  pub mem_exit : MutBor (List ℕ)
   pub mem_is : mem.now ≡ old
   pub mem_left : mem_exit.now ≡ new
   pub met : write-contract.Learnt lifetimes (mem, (tag, (kind, (word, tt)))) r (mem_exit, (tag, (kind, (word, tt))))
 
 pub record StopMet (old new : List ℕ) (r : ℕ) : Type 0 where
   pub lifetimes : Lfts 1
-  pub mem : Bor (List ℕ)
-  pub mem_exit : Bor (List ℕ)
+  pub mem : MutBor (List ℕ)
+  pub mem_exit : MutBor (List ℕ)
   pub mem_is : mem.now ≡ old
   pub mem_left : mem_exit.now ≡ new
   pub met : stop-contract.Learnt lifetimes (mem, tt) r (mem_exit, tt)
@@ -81,10 +82,10 @@ pub record StopMet (old new : List ℕ) (r : ℕ) : Type 0 where
 pub record StepMet (old new : List ℕ) (clock : Float) (wall : ℤ) (kind number message : ℕ) (list out : List ℕ) (r : Reply) (out' : List ℕ) : Type 0 where
   pub lifetimes : Lfts 3
   pub given : Bor (List ℕ)
-  pub mem : Bor (List ℕ)
-  pub mem_exit : Bor (List ℕ)
-  pub lent : Bor (List ℕ)
-  pub lent_exit : Bor (List ℕ)
+  pub mem : MutBor (List ℕ)
+  pub mem_exit : MutBor (List ℕ)
+  pub lent : MutBor (List ℕ)
+  pub lent_exit : MutBor (List ℕ)
   pub given_is : given.now ≡ list
   pub mem_is : mem.now ≡ old
   pub mem_left : mem_exit.now ≡ new
@@ -113,8 +114,8 @@ pub record CountsMet (old : List ℕ) (r : CountsLook) : Type 0 where
 pub record GroupsMet (old out : List ℕ) (r : ListLook) (out' : List ℕ) : Type 0 where
   pub lifetimes : Lfts 2
   pub mem : Bor (List ℕ)
-  pub lent : Bor (List ℕ)
-  pub lent_exit : Bor (List ℕ)
+  pub lent : MutBor (List ℕ)
+  pub lent_exit : MutBor (List ℕ)
   pub mem_is : mem.now ≡ old
   pub lent_is : lent.now ≡ out
   pub lent_left : lent_exit.now ≡ out'
@@ -123,8 +124,8 @@ pub record GroupsMet (old out : List ℕ) (r : ListLook) (out' : List ℕ) : Typ
 pub record TableMet (old out : List ℕ) (r : ListLook) (out' : List ℕ) : Type 0 where
   pub lifetimes : Lfts 2
   pub mem : Bor (List ℕ)
-  pub lent : Bor (List ℕ)
-  pub lent_exit : Bor (List ℕ)
+  pub lent : MutBor (List ℕ)
+  pub lent_exit : MutBor (List ℕ)
   pub mem_is : mem.now ≡ old
   pub lent_is : lent.now ≡ out
   pub lent_left : lent_exit.now ≡ out'
@@ -133,8 +134,8 @@ pub record TableMet (old out : List ℕ) (r : ListLook) (out' : List ℕ) : Type
 pub record PanelMet (old out : List ℕ) (r : ListLook) (out' : List ℕ) : Type 0 where
   pub lifetimes : Lfts 2
   pub mem : Bor (List ℕ)
-  pub lent : Bor (List ℕ)
-  pub lent_exit : Bor (List ℕ)
+  pub lent : MutBor (List ℕ)
+  pub lent_exit : MutBor (List ℕ)
   pub mem_is : mem.now ≡ old
   pub lent_is : lent.now ≡ out
   pub lent_left : lent_exit.now ≡ out'
@@ -150,17 +151,17 @@ pub record TagMet (old : List ℕ) (tag : ℕ) (r : TagLook) : Type 0 where
 
 -- The call c could be made on the memory `old`: the `requires` of its entry point holds, whatever the references are.
 unfoldable pub Asked : Call → List ℕ → Type 0
-Asked (tier clock tag to) old = (κs : Lfts 1) (mem : Bor (List ℕ)) → mem.now ≡ old → tier-contract.Asked κs (mem, (clock, (tag, (to, tt))))
-Asked (load clock list) old = (κs : Lfts 2) (given mem : Bor (List ℕ)) → given.now ≡ list → mem.now ≡ old → load-contract.Asked κs (mem, (clock, (given, tt)))
-Asked (steps clock wall kind number message list out) old = (κs : Lfts 3) (given mem lent : Bor (List ℕ)) → given.now ≡ list → mem.now ≡ old → lent.now ≡ out → step-contract.Asked κs (mem, (clock, (wall, (kind, (number, (message, (given, (lent, tt))))))))
-Asked (write tag kind word) old = (κs : Lfts 1) (mem : Bor (List ℕ)) → mem.now ≡ old → write-contract.Asked κs (mem, (tag, (kind, (word, tt))))
-Asked stop old = (κs : Lfts 1) (mem : Bor (List ℕ)) → mem.now ≡ old → stop-contract.Asked κs (mem, tt)
+Asked (tier clock tag to) old = (κs : Lfts 1) (mem : MutBor (List ℕ)) → mem.now ≡ old → tier-contract.Asked κs (mem, (clock, (tag, (to, tt))))
+Asked (load clock list) old = (κs : Lfts 2) (given : Bor (List ℕ)) (mem : MutBor (List ℕ)) → given.now ≡ list → mem.now ≡ old → load-contract.Asked κs (mem, (clock, (given, tt)))
+Asked (steps clock wall kind number message list out) old = (κs : Lfts 3) (given : Bor (List ℕ)) (mem lent : MutBor (List ℕ)) → given.now ≡ list → mem.now ≡ old → lent.now ≡ out → step-contract.Asked κs (mem, (clock, (wall, (kind, (number, (message, (given, (lent, tt))))))))
+Asked (write tag kind word) old = (κs : Lfts 1) (mem : MutBor (List ℕ)) → mem.now ≡ old → write-contract.Asked κs (mem, (tag, (kind, (word, tt))))
+Asked stop old = (κs : Lfts 1) (mem : MutBor (List ℕ)) → mem.now ≡ old → stop-contract.Asked κs (mem, tt)
 Asked (look look_state) old = (κs : Lfts 1) (mem : Bor (List ℕ)) → mem.now ≡ old → state-contract.Asked κs (mem, tt)
 Asked (look look_stats) old = (κs : Lfts 1) (mem : Bor (List ℕ)) → mem.now ≡ old → stats-contract.Asked κs (mem, tt)
 Asked (look look_counts) old = (κs : Lfts 1) (mem : Bor (List ℕ)) → mem.now ≡ old → counts-contract.Asked κs (mem, tt)
-Asked (look (look_groups out)) old = (κs : Lfts 2) (mem lent : Bor (List ℕ)) → mem.now ≡ old → lent.now ≡ out → groups-contract.Asked κs (mem, (lent, tt))
-Asked (look (look_table out)) old = (κs : Lfts 2) (mem lent : Bor (List ℕ)) → mem.now ≡ old → lent.now ≡ out → table-contract.Asked κs (mem, (lent, tt))
-Asked (look (look_panel out)) old = (κs : Lfts 2) (mem lent : Bor (List ℕ)) → mem.now ≡ old → lent.now ≡ out → panel-contract.Asked κs (mem, (lent, tt))
+Asked (look (look_groups out)) old = (κs : Lfts 2) (mem : Bor (List ℕ)) (lent : MutBor (List ℕ)) → mem.now ≡ old → lent.now ≡ out → groups-contract.Asked κs (mem, (lent, tt))
+Asked (look (look_table out)) old = (κs : Lfts 2) (mem : Bor (List ℕ)) (lent : MutBor (List ℕ)) → mem.now ≡ old → lent.now ≡ out → table-contract.Asked κs (mem, (lent, tt))
+Asked (look (look_panel out)) old = (κs : Lfts 2) (mem : Bor (List ℕ)) (lent : MutBor (List ℕ)) → mem.now ≡ old → lent.now ≡ out → panel-contract.Asked κs (mem, (lent, tt))
 Asked (look (look_tag tag)) old = (κs : Lfts 1) (mem : Bor (List ℕ)) → mem.now ≡ old → tag-contract.Asked κs (mem, (tag, tt))
 
 -- The call c on the memory `old` answered a and left the memory `new`. A look is lent the memory to read, so that it stays as it is.

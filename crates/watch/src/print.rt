@@ -1,87 +1,66 @@
 // What is printed.
 use changes::Change;
-use libc::STDOUT_FILENO;
 use names::directory::MAX_NAMES;
+use std::io;
 use values::entry::Quality;
 use values::error::Error;
 use values::value::Value;
-
-pub fn text(s: &[u8]) {
-    io::write_all(STDOUT_FILENO, s);
-}
-
-pub fn number(n: u64) {
-    io::print_decimal(STDOUT_FILENO, n);
-}
+use words::scalar::word_of_int;
 
 // With one place behind the point.
-fn float(x: f64) {
+fn float(rt: &impl Print, x: f64) -> io::Result<()> {
     let n = ieee::round::to_u64(ieee::round::round_ties_even(x * 10.0));
-    number(n / 10);
-    text(b".");
-    number(n % 10);
+    print!(rt; "{}.{}", n / 10, n % 10)
 }
 
-fn value(v: Value) {
+fn value(rt: &impl Print, v: Value) -> io::Result<()> {
     match v {
-        Value::Null => text(b"null"),
-        Value::Bool(b) => {
-            if b {
-                text(b"true");
-            } else {
-                text(b"false");
-            }
-        }
-        Value::Int(n) => number(words::scalar::word_of_int(n)),
-        Value::Float(x) => float(x),
+        Value::Null => print!(rt; "null"),
+        Value::Bool(b) => print!(rt; "{b}"),
+        Value::Int(n) => print!(rt; "{}", word_of_int(n)),
+        Value::Float(x) => float(rt, x),
     }
 }
 
-fn quality(q: Quality) {
+fn quality(q: Quality) -> &'static str {
     match q {
-        Quality::Good => text(b" good"),
-        Quality::Bad => text(b" bad"),
-        Quality::Missing => text(b" missing"),
-        Quality::Stale => text(b" stale"),
+        Quality::Good => "good",
+        Quality::Bad => "bad",
+        Quality::Missing => "missing",
+        Quality::Stale => "stale",
     }
 }
 
 // The number of the error's kind.
-fn error(e: Error) {
+fn error(rt: &impl Print, e: Error) -> io::Result<()> {
     let Error::Is(x) = e else {
-        return;
+        return Ok(());
     };
-    let kind = x.kind;
-    text(b", error ");
-    number(values::error::kind_number(kind) as u64);
+    print!(rt; ", error {}", values::error::kind_number(x.kind))
 }
 
 // A line: name, value, quality, wall time, error.
-fn change(name: &[u8], c: Change) {
+fn change(rt: &impl Print, name: &[u8], c: Change) -> io::Result<()> {
     let e = c.entry;
-    text(b"  ");
-    text(name);
-    text(b" ");
-    let v = e.value;
-    value(v);
-    let q = e.quality;
-    quality(q);
-    text(b" at ");
-    number(words::scalar::word_of_int(e.t));
-    let f = e.error;
-    error(f);
-    text(b"\n");
+    print!(rt; "  ")?;
+    rt.write_all(name)?;
+    print!(rt; " ")?;
+    value(rt, e.value)?;
+    print!(rt; " {} at {}", quality(e.quality), word_of_int(e.t))?;
+    error(rt, e.error)?;
+    println!(rt)
 }
 
 // The first n of a run.
-pub fn changes<'a>(names: &'a [u8], ends: &'a [u32], run: [Change; MAX_NAMES], n: usize) {
-    let mut i: usize = 0;
-    while i < n {
-        if MAX_NAMES <= i {
-            return;
-        }
-        let c = run[i];
-        change(directory::name_in(names, ends, c.tag as usize), c);
-        i += 1;
+pub fn changes<'a>(
+    rt: &impl Print,
+    names: &'a [u8],
+    ends: &'a [u32],
+    run: [Change; MAX_NAMES],
+    n: usize,
+) -> io::Result<()> {
+    for c in run.iter().take(n) {
+        change(rt, directory::name_in(names, ends, c.tag as usize), *c)?;
     }
+    Ok(())
 }

@@ -1,6 +1,6 @@
 // Creation, tier calls and steps.
 use super::host::{Host, RESULTS, answer, readings};
-use super::print::{changes, number, text};
+use super::print::changes;
 use capi::calls::{wz_set_tier, wz_step};
 use capi::creation::wz_create;
 use changes::Change;
@@ -8,6 +8,7 @@ use heads::options::Options;
 use lent::changes::CHANGE;
 use names::directory::MAX_NAMES;
 use replies::reply::Reply;
+use std::io;
 use step_checks::awaiting::Answer;
 
 // The bytes of an engine of four names.
@@ -27,28 +28,25 @@ fn wall(clock: f64) -> i64 {
 
 // An event of values is read as records, over the first places of the run, and printed.
 fn event<'a>(
+    rt: &impl Print,
     names: &'a [u8],
     ends: &'a [u32],
     run: [Change; MAX_NAMES],
     out: &[u8],
     r: Reply,
-) -> [Change; MAX_NAMES] {
+) -> io::Result<[Change; MAX_NAMES]> {
     if r.kind != Reply::VALUES {
-        return run;
+        return Ok(run);
     }
     let n = (r.count % 0x1_0000) as usize;
     let filled = changes::with_changes(run, out, n);
-    text(b"values ");
-    number(r.count);
-    text(b"\n");
-    changes(names, ends, filled, n);
-    filled
+    println!(rt; "values {}", r.count)?;
+    changes(rt, names, ends, filled, n)?;
+    Ok(filled)
 }
 
-fn refused(code: u64) {
-    text(b"refused ");
-    number(code);
-    text(b"\n");
+fn refused(rt: &impl Print, code: u64) -> io::Result<()> {
+    println!(rt; "refused {code}")
 }
 
 // What the host has come to when it answers a request.
@@ -80,7 +78,7 @@ fn step(mem: &mut [u8], h: Host, kind: u64, list: &mut [u8], out: &mut [u8]) -> 
     wz_step(mem, h.clock, w, kind, 0, 0, &settings, out)
 }
 
-fn steps<'a>(names: &'a [u8], ends: &'a [u32], mem: &mut [u8]) {
+fn steps<'a>(rt: &impl Print, names: &'a [u8], ends: &'a [u32], mem: &mut [u8]) -> io::Result<()> {
     let mut out = [0u8; LIST];
     let mut list = [0u8; RESULTS];
     let mut run = [Change::none(); MAX_NAMES];
@@ -89,19 +87,17 @@ fn steps<'a>(names: &'a [u8], ends: &'a [u32], mem: &mut [u8]) {
         rounds: 0,
     };
     let mut kind = Answer::BEGIN;
-    let mut left: usize = 30;
-    while 0 < left {
+    for _ in 0..30 {
         let r = step(mem, h, kind, &mut list, &mut out);
         if r.code != 0 {
-            refused(r.code);
-            return;
+            return refused(rt, r.code);
         }
-        let next = event(names, ends, run, &out, r);
+        let next = event(rt, names, ends, run, &out, r)?;
         run = next;
         h = host_after(h, r);
         kind = answer(r.kind, h.rounds);
-        left -= 1;
     }
+    Ok(())
 }
 
 fn enter(mem: &mut [u8]) {
@@ -111,7 +107,7 @@ fn enter(mem: &mut [u8]) {
     wz_set_tier(mem, 0.0, 3, 1);
 }
 
-fn begin<'a>(names: &'a [u8], ends: &'a [u32]) {
+fn begin<'a>(rt: &impl Print, names: &'a [u8], ends: &'a [u32]) -> io::Result<()> {
     let mut mem = [0u8; MEMORY];
     let settings = [0u8; SETTINGS];
     let groups = [0u8; 0];
@@ -122,15 +118,14 @@ fn begin<'a>(names: &'a [u8], ends: &'a [u32]) {
     };
     let code = wz_create(&mut mem, names, ends, options, &settings, &groups);
     if code != 0 {
-        refused(code as u64);
-        return;
+        return refused(rt, code as u64);
     }
     enter(&mut mem);
-    steps(names, ends, &mut mem);
+    steps(rt, names, ends, &mut mem)
 }
 
-pub fn run() {
+pub fn run(rt: &impl Print) -> io::Result<()> {
     let names = *b"AlarmFlowLevelPump";
     let ends = [5u32, 9, 14, 18];
-    begin(&names, &ends);
+    begin(rt, &names, &ends)
 }

@@ -18,7 +18,7 @@ use mir.Facts.{to_z_pos, to_z-of_z}
 use Rattle.values.specs.Entry.{quality_number}
 use Rattle.values.specs.declared.value.Value.{Value}
 use Rattle.values.specs.declared.value.Value.TheVariants.{Bool as Flag}
-use Rattle.values.specs.declared.error.ErrorKind.TheVariants.{NotFound, Other}
+use Rattle.values.specs.declared.error.ErrorKind.TheVariants.{Other}
 use Rattle.values.specs.declared.error.TagError.{TagError}
 use Rattle.values.specs.declared.error.Error.TheVariants.{Is as IsError}
 use Rattle.values.specs.declared.entry.Quality.{Quality}

@@ -61,19 +61,22 @@ loop-i-preserved c =
     let read = x.ensures ∙ removing_read a.k l.i l.j old new r h in
     let small : x.result % 65536 ≡ x.result = mod-eq_of_lt (rw x.ensures (half_small l.s (l.i + 1))) in (
       omega arith,
-      elim c.if-x-k.branch [ then-x-k w ↦ (
-            omega (arith, w.j-is),
-            (
-              ap length w.s-is ∙ w.put_half.auto.s ∙ l.invariant.1.1.0,
-              rw (w.s-is, w.j-is)
-                  (removing_yes a.k l.i l.j old new r h (halves_in w.put_half.new.s) x.result read w.if-x-k.true
-                  l.invariant.1.0 (halves_same l.s a.s.now l.invariant.1.1.0) (w.put_half.ensures ∙ ap (set new (l.j + 1)) small)),
-            ),
-          ) | else-x-k w ↦ (
-            omega (arith, w.j-is),
-            (
-              ap length w.s-is ∙ l.invariant.1.1.0,
-              rw (w.s-is, w.j-is) (removing_no a.k l.i l.j old new r h (sym w.if-x-k.false ∙ read)),
-            ),
-          ) ],
+      elim c.if-x-k.branch [
+        | then-x-k w ↦ (
+          omega (arith, w.j-is),
+          (
+            ap length w.s-is ∙ w.put_half.auto.s ∙ l.invariant.1.1.0,
+            rw (w.s-is, w.j-is)
+                (removing_yes a.k l.i l.j old new r h (halves_in w.put_half.new.s) x.result read w.if-x-k.true
+                l.invariant.1.0 (halves_same l.s a.s.now l.invariant.1.1.0) (w.put_half.ensures ∙ ap (set new (l.j + 1)) small)),
+          ),
+        )
+        | else-x-k w ↦ (
+          omega (arith, w.j-is),
+          (
+            ap length w.s-is ∙ l.invariant.1.1.0,
+            rw (w.s-is, w.j-is) (removing_no a.k l.i l.j old new r h (sym w.if-x-k.false ∙ read)),
+          ),
+        )
+      ],
     )

@@ -1,5 +1,8 @@
 -- `capi::creation::wz_create` meets its contract.
 use mathlib.Core.Path.{ap, ap₂, sym, ◌∙◌}
+use mathlib.Core.List.{List}
+use Prim.Native.Nat.{ℕ}
+use Rattle.heads.specs.declared.options.Options.{Options}
 use native.Mathlib.Omega.{arith}
 use lib.ListN.{length}
 use Rattle.replies.specs.Worker.{Worker, worker}
@@ -10,26 +13,26 @@ use Rattle.capi.proofs.CallLaws.{no_names, many_names, other_size, not_made, is_
 use borrow.Author.Rules.{rules}
 use Rattle.capi.proofs.creation.wz_create.Goals as goal
 
-abbrev setup : tie.Start → Setup
-setup s = let a = s.args in record { names = a.names.now; ends = a.ends.now; options = a.options; settings = a.settings.now; groups = a.groups.now }
+abbrev setup : List ℕ → List ℕ → Options → List ℕ → List ℕ → Setup
+setup names ends options settings groups = record { names = names; ends = ends; options = options; settings = settings; groups = groups }
 
 pub returns-then-count-eq0 : goal.returns-then-count-eq0
-returns-then-count-eq0 c = no_names (setup PLACE-c-6) c.args.mem.now c.if-count-eq0.true
+returns-then-count-eq0 c = no_names (setup c.args.names.now c.args.ends.now c.args.options c.args.settings.now c.args.groups.now) c.args.mem.now c.if-count-eq0.true
 
 pub returns-then-count-gt-MAX_NAMES : goal.returns-then-count-gt-MAX_NAMES
-returns-then-count-gt-MAX_NAMES c = many_names (setup PLACE-c-7) c.args.mem.now c.if-count-eq0.false (omega arith)
+returns-then-count-gt-MAX_NAMES c = many_names (setup c.args.names.now c.args.ends.now c.args.options c.args.settings.now c.args.groups.now) c.args.mem.now c.if-count-eq0.false (omega arith)
 
 pub returns-then-mem-memory_size : goal.returns-then-mem-memory_size
 returns-then-mem-memory_size c =
-    other_size (setup PLACE-c-9) c.args.mem.now c.if-count-eq0.false (omega (arith, c.if-count-gt-MAX_NAMES.false)) (λ e. c.if-mem-memory_size.true (e ∙ sym c.memory_size.ensures))
+    other_size (setup c.args.names.now c.args.ends.now c.args.options c.args.settings.now c.args.groups.now) c.args.mem.now c.if-count-eq0.false (omega (arith, c.if-count-gt-MAX_NAMES.false)) (λ e. c.if-mem-memory_size.true (e ∙ sym c.memory_size.ensures))
 
 pub returns-then-n-ne0 : goal.returns-then-n-ne0
 returns-then-n-ne0 c =
-    not_made (setup PLACE-c-11) c.args.mem.now c.if-count-eq0.false (omega (arith, c.if-count-gt-MAX_NAMES.false)) c.creation_check-n.result
+    not_made (setup c.args.names.now c.args.ends.now c.args.options c.args.settings.now c.args.groups.now) c.args.mem.now c.if-count-eq0.false (omega (arith, c.if-count-gt-MAX_NAMES.false)) c.creation_check-n.result
     (c.if-mem-memory_size.false ∙ c.memory_size.ensures) c.creation_check-n.ensures c.if-n-ne0.true
 
 pub create-requires : goal.create-requires
-create-requires c = (c.if-mem-memory_size.false ∙ c.memory_size.ensures, (omega (arith, c.if-count-eq0.false), omega (arith, c.if-count-gt-MAX_NAMES.false)))
+create-requires c = record { mem_len = c.if-mem-memory_size.false ∙ c.memory_size.ensures; in_bounds = omega (arith, c.if-count-eq0.false); ends_len_bound = omega (arith, c.if-count-gt-MAX_NAMES.false) }
 
 pub put_head-requires : goal.put_head-requires
 put_head-requires c =
@@ -39,7 +42,7 @@ put_head-requires c =
 pub returns : goal.returns
 returns c =
     let accepted = sym c.creation_check-n.ensures ∙ c.if-n-ne0.false in
-    is_made (setup c) c.args.mem.now c.if-count-eq0.false (omega (arith, c.if-count-gt-MAX_NAMES.false)) c.creation_check-n.result
+    is_made (setup c.args.names.now c.args.ends.now c.args.options c.args.settings.now c.args.groups.now) c.args.mem.now c.if-count-eq0.false (omega (arith, c.if-count-gt-MAX_NAMES.false)) c.creation_check-n.result
     (c.if-mem-memory_size.false ∙ c.memory_size.ensures) c.creation_check-n.ensures _ c.if-n-ne0.false
-    (c.put_head.ensures ∙ ap₂ {C = Worker} worker c.fresh-fresh.ensures (c.create.ensures ∙ all-configured (setup c) accepted))
+    (c.put_head.ensures ∙ ap₂ {C = Worker} worker c.fresh-fresh.ensures (c.create.ensures ∙ all-configured (setup c.args.names.now c.args.ends.now c.args.options c.args.settings.now c.args.groups.now) accepted))
     (search rules)

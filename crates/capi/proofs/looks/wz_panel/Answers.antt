@@ -13,7 +13,8 @@ returns-then-size_check-ne0 c =
     let mem = c.args.mem.now in
     let out = c.args.out.now in
     let W = worker_in mem in
-    list_alien mem (length out) (panel_room max_names) (panel_count W out) out (written out (panel_bytes W)) c.listed.result (λ g. c.if-size_check-ne0.true (c.size_check.ensures ∙ g)) c.listed.ensures
+    let both = list_alien mem (length out) (panel_room max_names) (panel_count W out) out (written out (panel_bytes W)) c.listed.result (λ g. c.if-size_check-ne0.true (c.size_check.ensures ∙ g)) c.listed.ensures in
+    record { value = both.0; out_after = both.1 }
 
 pub returns : goal.returns
 unfolding worker_in
@@ -23,4 +24,5 @@ returns c =
     let W = worker_in mem in
     let call = c.panel in
     let same = c.board_of.ensures.1 in
-    list_own mem (length out) (panel_room max_names) (panel_count W out) out call.new.out (written out (panel_bytes W)) call.result (sym c.size_check.ensures ∙ c.if-size_check-ne0.false) (rw same at call.ensures.value) (rw same at call.ensures.out_after)
+    let both = list_own mem (length out) (panel_room max_names) (panel_count W out) out call.new.out (written out (panel_bytes W)) call.result (sym c.size_check.ensures ∙ c.if-size_check-ne0.false) (rw same at call.ensures.value) (rw same at call.ensures.out_after) in
+    record { value = both.0; out_after = both.1 }

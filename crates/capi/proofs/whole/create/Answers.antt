@@ -6,23 +6,29 @@ use Rattle.capi.proofs.Laws.{engine_room, engine_board, size-right, size_tags, b
 use borrow.Author.Rules.{rules}
 use Rattle.capi.proofs.whole.create.Goals as goal
 
-own : (s : tie.Start) → IsEngine s.args.mem.now
-own s = ap size_check s.requires.0 ∙ size-right _ s.requires.1.0 s.requires.1.1
-
 pub slice_bounds-create-count : goal.slice_bounds-create-count
-slice_bounds-create-count c = search (rules, engine_room c.args.mem.now (own PLACE-c-5))
+slice_bounds-create-count c =
+    let own : IsEngine c.args.mem.now = ap size_check c.requires.mem_len ∙ size-right _ c.requires.in_bounds c.requires.ends_len_bound in
+    search (rules, engine_room c.args.mem.now own)
 
 pub slice_bounds-create-start : goal.slice_bounds-create-start
-slice_bounds-create-start c = search (rules, engine_room c.args.mem.now (own PLACE-c-5))
+slice_bounds-create-start c =
+    let own : IsEngine c.args.mem.now = ap size_check c.requires.mem_len ∙ size-right _ c.requires.in_bounds c.requires.ends_len_bound in
+    search (rules, engine_room c.args.mem.now own)
 
 pub slice_bounds-create-end : goal.slice_bounds-create-end
-slice_bounds-create-end c = search (rules, engine_room c.args.mem.now (own PLACE-c-5))
+slice_bounds-create-end c =
+    let own : IsEngine c.args.mem.now = ap size_check c.requires.mem_len ∙ size-right _ c.requires.in_bounds c.requires.ends_len_bound in
+    search (rules, engine_room c.args.mem.now own)
 
 pub create-requires : goal.create-requires
-create-requires c = (engine_board c.args.mem.now (own PLACE-c-6), size_tags c.args.mem.now _ c.requires.mem_len)
+create-requires c =
+    let own : IsEngine c.args.mem.now = ap size_check c.requires.mem_len ∙ size-right _ c.requires.in_bounds c.requires.ends_len_bound in
+    record { board = engine_board c.args.mem.now own; b_value = size_tags c.args.mem.now _ c.requires.mem_len }
 
 pub returns : goal.returns
 unfolding worker_in
 returns c =
     let f = c.create in
-    ap (λ (W : Worker). W.board) (board_put c.args.mem.now f.new.b (own c) f.auto.b) ∙ f.ensures.board
+    let own : IsEngine c.args.mem.now = ap size_check c.requires.mem_len ∙ size-right _ c.requires.in_bounds c.requires.ends_len_bound in
+    ap (λ (W : Worker). W.board) (board_put c.args.mem.now f.new.b own f.auto.b) ∙ f.ensures.board

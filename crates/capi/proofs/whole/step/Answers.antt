@@ -13,9 +13,6 @@ use Rattle.capi.proofs.Laws.{engine_room, engine_board}
 use borrow.Author.Rules.{rules}
 use Rattle.capi.proofs.whole.step.Goals as goal
 
-fits_wall : (s : tie.Start) → SFits w64 s.args.wall
-fits_wall s = search rules
-
 pub slice_bounds-step-count : goal.slice_bounds-step-count
 slice_bounds-step-count c = search (rules, engine_room c.args.mem.now c.requires)
 
@@ -36,7 +33,7 @@ returns c =
     let bs = a.mem.now in
     let W = worker a.e (worker_in bs).board in
     let x = answer a.a a.list.now in
-    let fit : SFits w64 a.wall = fits_wall c in
+    let fit : SFits w64 a.wall = search rules in
     step_put bs f.new.board a.out.now f.new.out f.result
     (step W (at a.clock _) x (length a.out.now))
     (step W (at a.clock a.wall) x (length a.out.now))

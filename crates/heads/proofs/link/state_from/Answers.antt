@@ -1,5 +1,4 @@
 -- `heads::link::state_from` meets its contract.
-use borrow.Author.Tests.{ne_eqb}
 use Rattle.heads.proofs.link.state_from.Goals as goal
 
 pub returns-in-0 : goal.returns-in-0

@@ -1,5 +1,4 @@
 -- `words::entry::quality_from` meets its contract.
-use borrow.Author.Tests.{ne_eqb}
 use Rattle.words.proofs.entry.quality_from.Goals as goal
 
 pub returns-in-2 : goal.returns-in-2

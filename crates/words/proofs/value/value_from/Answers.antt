@@ -4,7 +4,6 @@ use Rattle.values.specs.declared.value.Value.TheVariants.{Int}
 use mir.Val.{SFits}
 use mir.Syntax.{w64}
 use mir.Facts.{to_z-of_z}
-use borrow.Author.Tests.{ne_eqb}
 use borrow.Author.Rules.{rules}
 use Rattle.words.proofs.value.value_from.Goals as goal
 
