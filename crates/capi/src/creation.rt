@@ -18,7 +18,7 @@ pub extern "C" fn wz_create<'a>(
     settings: &[u8],
     groups: &[u8],
 ) -> u32
-    ensures { Created mem.old mem.new result (record { names = names.entry.now; ends = ends.now; options = options; settings = settings.now; groups = groups.now }) }
+    ensures { Created mem.old mem.new result (record { names = names.now; ends = ends.now; options = options; settings = settings.now; groups = groups.now }) }
 {
     let count = ends.len();
     if count == 0 {

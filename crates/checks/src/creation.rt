@@ -11,7 +11,7 @@ pub fn creation_check<'a>(
     settings: &[u8],
     groups: &[u8],
 ) -> u32
-    ensures { result ≡ creation_check (record { names = names.entry.now; ends = ends.now; options = o; settings = settings.now; groups = groups.now }) }
+    ensures { result ≡ creation_check (record { names = names.now; ends = ends.now; options = o; settings = settings.now; groups = groups.now }) }
 {
     let n = directory::check_in(names, ends);
     if n != 0 {
