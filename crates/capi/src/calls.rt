@@ -20,7 +20,6 @@ use step_checks::awaiting::Answer;
 use words::value::value_from;
 
 // A tier call.
-#[unsafe(no_mangle)]
 pub extern "C" fn wz_set_tier(mem: &mut [u8], clock: f64, tag: u32, tier: u32) -> u32
     ensures { Called mem.old mem.new result (tier_check (worker_in mem.old) clock tag tier) (tiered (worker_in mem.old) clock tag tier) }
 {
@@ -39,7 +38,6 @@ pub extern "C" fn wz_set_tier(mem: &mut [u8], clock: f64, tag: u32, tier: u32) -
 }
 
 // A panel list loaded.
-#[unsafe(no_mangle)]
 pub extern "C" fn wz_load(mem: &mut [u8], clock: f64, list: &[u8]) -> u32
     ensures { Called mem.old mem.new result (load_check (worker_in mem.old) clock list.now) (loaded (worker_in mem.old) clock list.now) }
 {
@@ -58,7 +56,6 @@ pub extern "C" fn wz_load(mem: &mut [u8], clock: f64, list: &[u8]) -> u32
 }
 
 // A write queued; the value is its kind and its bits.
-#[unsafe(no_mangle)]
 pub extern "C" fn wz_write(mem: &mut [u8], tag: u32, kind: u64, word: u64) -> u32
     ensures { Called mem.old mem.new result (write_check (worker_in mem.old) tag (value_from kind word)) (wrote (worker_in mem.old) tag (value_from kind word)) }
 {
@@ -79,7 +76,6 @@ pub extern "C" fn wz_write(mem: &mut [u8], tag: u32, kind: u64, word: u64) -> u3
 }
 
 // A stop asked for.
-#[unsafe(no_mangle)]
 pub extern "C" fn wz_stop(mem: &mut [u8]) -> u32
     ensures { Called mem.old mem.new result 0 (halted (worker_in mem.old)) }
 {
@@ -94,7 +90,6 @@ pub extern "C" fn wz_stop(mem: &mut [u8]) -> u32
 }
 
 // A step: one answer of the host, with its list in `list`; a list that the step gives goes into `out`.
-#[unsafe(no_mangle)]
 pub extern "C" fn wz_step(
     mem: &mut [u8],
     clock: f64,

@@ -9,7 +9,6 @@ use names::directory::MAX_NAMES;
 
 // An engine in lent memory, whose length goes by the number of names. The names and all else that is handed in are needed
 // for this call alone.
-#[unsafe(no_mangle)]
 pub extern "C" fn wz_create<'a>(
     mem: &mut [u8],
     names: &'a [u8],

@@ -12,7 +12,6 @@ use shown::lists::{ListLook, group_stats, listed, panel, table};
 use shown::tag::{TagLook, no_look};
 
 // The state and the version.
-#[unsafe(no_mangle)]
 pub extern "C" fn wz_state(mem: &[u8]) -> StateLook
     ensures { result ≡ state_look mem.now }
 {
@@ -24,7 +23,6 @@ pub extern "C" fn wz_state(mem: &[u8]) -> StateLook
 }
 
 // The statistics of the rounds.
-#[unsafe(no_mangle)]
 pub extern "C" fn wz_stats(mem: &[u8]) -> StatsLook
     ensures { result ≡ stats_look mem.now }
 {
@@ -36,7 +34,6 @@ pub extern "C" fn wz_stats(mem: &[u8]) -> StatsLook
 }
 
 // How many tags are in each tier.
-#[unsafe(no_mangle)]
 pub extern "C" fn wz_tier_counts(mem: &[u8]) -> CountsLook
     ensures { result ≡ counts_look mem.now }
 {
@@ -47,7 +44,6 @@ pub extern "C" fn wz_tier_counts(mem: &[u8]) -> CountsLook
 }
 
 // The groups' statistics: number, rate, tags in tier 1, 1 where there is a period, and its bits.
-#[unsafe(no_mangle)]
 pub extern "C" fn wz_group_stats(mem: &[u8], out: &mut [u8]) -> ListLook
     ensures value { result ≡ listed (group_check mem.now out.old) (group_count (worker_in mem.now) out.old) }
     ensures out_after { out.new ≡ left_in (group_check mem.now out.old) out.old (group_cells (worker_in mem.now)) }
@@ -59,7 +55,6 @@ pub extern "C" fn wz_group_stats(mem: &[u8], out: &mut [u8]) -> ListLook
 }
 
 // The table in table order: tag and tier.
-#[unsafe(no_mangle)]
 pub extern "C" fn wz_table(mem: &[u8], out: &mut [u8]) -> ListLook
     ensures value { result ≡ listed (table_check mem.now out.old) (table_count (worker_in mem.now) out.old) }
     ensures out_after { out.new ≡ left_in (table_check mem.now out.old) out.old (records (row_cells (worker_in mem.now).board) (worker_in mem.now).board.table.order) }
@@ -71,7 +66,6 @@ pub extern "C" fn wz_table(mem: &[u8], out: &mut [u8]) -> ListLook
 }
 
 // The panel list; `count` is its length in bytes.
-#[unsafe(no_mangle)]
 pub extern "C" fn wz_panel(mem: &[u8], out: &mut [u8]) -> ListLook
     ensures value { result ≡ listed (panel_code mem.now out.old) (panel_count (worker_in mem.now) out.old) }
     ensures out_after { out.new ≡ panel_left (panel_code mem.now out.old) out.old (panel_bytes (worker_in mem.now)) }
@@ -83,7 +77,6 @@ pub extern "C" fn wz_panel(mem: &[u8], out: &mut [u8]) -> ListLook
 }
 
 // A tag: its tier, its cached entry and its description.
-#[unsafe(no_mangle)]
 pub extern "C" fn wz_tag(mem: &[u8], tag: u32) -> TagLook
     ensures { result ≡ tag_look mem.now tag }
 {

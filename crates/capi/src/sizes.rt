@@ -8,7 +8,6 @@ use names::directory::MAX_NAMES;
 use shown::lists::PANEL;
 
 // The number of this interface, for a host to compare with the one that it was compiled for.
-#[unsafe(no_mangle)]
 pub extern "C" fn wz_interface() -> u64
     ensures { result ≡ interface_number }
 {
@@ -16,7 +15,6 @@ pub extern "C" fn wz_interface() -> u64
 }
 
 // An engine for so many names; 0 for a count that no directory has.
-#[unsafe(no_mangle)]
 pub extern "C" fn wz_memory_size(count: u32) -> u64
     ensures { result ≡ size_for count }
 {
@@ -30,7 +28,6 @@ pub extern "C" fn wz_memory_size(count: u32) -> u64
 }
 
 // The list that a step is lent: a change for every name that a directory can have, whatever the count.
-#[unsafe(no_mangle)]
 pub extern "C" fn wz_list_size(_count: u32) -> u64
     ensures { result ≡ list_size }
 {
@@ -38,7 +35,6 @@ pub extern "C" fn wz_list_size(_count: u32) -> u64
 }
 
 // The list that `wz_group_stats` is lent: 16 groups of five cells.
-#[unsafe(no_mangle)]
 pub extern "C" fn wz_group_stats_size() -> u64
     ensures { result ≡ group_stats_size }
 {
@@ -46,7 +42,6 @@ pub extern "C" fn wz_group_stats_size() -> u64
 }
 
 // The list that `wz_table` is lent: two cells for every name that a directory can have, whatever the count.
-#[unsafe(no_mangle)]
 pub extern "C" fn wz_table_size(_count: u32) -> u64
     ensures { result ≡ table_size }
 {
@@ -54,7 +49,6 @@ pub extern "C" fn wz_table_size(_count: u32) -> u64
 }
 
 // The buffer that `wz_panel` is lent: a list of as many tags as a directory can have.
-#[unsafe(no_mangle)]
 pub extern "C" fn wz_panel_size() -> u64
     ensures { result ≡ panel_size }
 {

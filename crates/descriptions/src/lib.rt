@@ -1,4 +1,6 @@
 // Rule 8: the descriptions that tags want, asked for in one call.
+#![tactic(auto)]
+
 ghost use Rattle.std.specs.Prelude.{◌≡◌, map, get_or};
 ghost use Rattle.table.specs.Tag.{fresh_tag};
 ghost use Rattle.table.specs.Table.{table_in};

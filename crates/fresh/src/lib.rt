@@ -1,4 +1,6 @@
 // A fresh board.
+#![tactic(auto)]
+
 ghost use Rattle.std.specs.Prelude.{◌≡◌, length, replicate, take};
 ghost use Rattle.names.specs.Directory.{names_of};
 ghost use Rattle.ranks.specs.Ranks.{over, keys_of, words_of};

@@ -1,4 +1,6 @@
 // Rule 7: what is known of a controller that is lost: every cached tag becomes stale.
+#![tactic(auto)]
+
 ghost use Rattle.std.specs.Prelude.{◌≡◌, map, get_or, set, ◌≤◌};
 ghost use Rattle.tags.specs.Lists.{list_in, room, fitted};
 ghost use Rattle.table.specs.Tag.{fresh_tag};

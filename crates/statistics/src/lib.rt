@@ -1,4 +1,6 @@
 // Rule 10: how many tags each tier has, and what is told of each group.
+#![tactic(auto)]
+
 pub mod counts;
 pub mod numbers; // which groups there are
 pub mod period;

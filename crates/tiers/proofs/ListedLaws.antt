@@ -9,7 +9,7 @@ use lib.Dec.{eqb, ltb}
 use lib.Ieee.{Float, le, add, binary64}
 use lib.ListN.{length, get_or, set, length-set, get_or-eq_default}
 use lib.Seq.{get_or-set_same, get_or-set_other}
-use Rattle.lists.specs.Keep.{count, without, Below}
+use Rattle.lists.specs.Keep.{count, Below}
 use Rattle.lists.proofs.KeepLaws.{count-append, count-without, count-without_other, below-append, below-keep}
 use Rattle.lists.proofs.CountLaws.{below_counts, length_fewer}
 use Rattle.tags.specs.Lists.{pushed}

@@ -54,23 +54,26 @@ loop-k-preserved c =
     let asked : p l.k ≡ c.is_asked.result =
     sym (c.is_asked.ensures ∙ ap is_asked (tag_read l.b t.result.now l.k t.ensures) ∙ ap (λ (X : Board). test X l.k) done.board) in (
       omega arith,
-      elim c.if-is_asked.branch [ then-is_asked w ↦ (
-            ap length w.b-is ∙ w.push_asked.auto.b ∙ l.invariant.1.0,
-            rw w.b-is (record {
-              still = w.push_asked.ensures.still;
-              board =
-                  w.push_asked.ensures.board
-                  ∙ ap (λ (X : Board). with_asked X (pushed X.table.room X.asked l.k)) done.board
-                  ∙ ap (λ (z : ℕ). with_asked B (pushed B.table.room o z)) (sym (mod-eq_of_lt small))
-                  ∙ ap (λ (z : List ℕ). with_asked B z) (collect_yes p (up_to n) l.k o refl B.table.room l.k 0 h fits small here (asked ∙ w.if-is_asked.true));
-            }),
-          ) | else-is_asked w ↦ (
-            ap length w.b-is ∙ l.invariant.1.0,
-            rw w.b-is (record {
-              still = done.still;
-              board = done.board ∙ ap (λ (z : List ℕ). with_asked B z) (collect_no p (up_to n) l.k o refl l.k 0 h here (asked ∙ w.if-is_asked.false));
-            }),
-          ) ],
+      elim c.if-is_asked.branch [
+        | then-is_asked w ↦ (
+          ap length w.b-is ∙ w.push_asked.auto.b ∙ l.invariant.1.0,
+          rw w.b-is (record {
+            still = w.push_asked.ensures.still;
+            board =
+                w.push_asked.ensures.board
+                ∙ ap (λ (X : Board). with_asked X (pushed X.table.room X.asked l.k)) done.board
+                ∙ ap (λ (z : ℕ). with_asked B (pushed B.table.room o z)) (sym (mod-eq_of_lt small))
+                ∙ ap (λ (z : List ℕ). with_asked B z) (collect_yes p (up_to n) l.k o refl B.table.room l.k 0 h fits small here (asked ∙ w.if-is_asked.true));
+          }),
+        )
+        | else-is_asked w ↦ (
+          ap length w.b-is ∙ l.invariant.1.0,
+          rw w.b-is (record {
+            still = done.still;
+            board = done.board ∙ ap (λ (z : List ℕ). with_asked B z) (collect_no p (up_to n) l.k o refl l.k 0 h here (asked ∙ w.if-is_asked.false));
+          }),
+        )
+      ],
     )
 
 pub shape_of-b : goal.shape_of-b

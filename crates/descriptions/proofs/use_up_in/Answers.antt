@@ -37,11 +37,14 @@ loop-k-preserved c =
     let tags = table_in a.t.now in
     let h : l.k < length tags = omega (arith, length-table a.t.now) in (
       omega arith,
-      elim c.if-wants_of.branch [ then-wants_of w ↦ (
-            ap length w.t-is ∙ w.put_wants.auto.t ∙ l.invariant.1.0,
-            ap table_in w.t-is ∙ w.put_wants.ensures ∙ unwanted_put tags l.k (table_in l.t) l.invariant.1.1 h,
-          ) | else-wants_of w ↦ (
-            ap length w.t-is ∙ l.invariant.1.0,
-            ap table_in w.t-is ∙ unwanted-kept tags l.k (table_in l.t) l.invariant.1.1 h (sym flag.ensures ∙ w.if-wants_of.false),
-          ) ],
+      elim c.if-wants_of.branch [
+        | then-wants_of w ↦ (
+          ap length w.t-is ∙ w.put_wants.auto.t ∙ l.invariant.1.0,
+          ap table_in w.t-is ∙ w.put_wants.ensures ∙ unwanted_put tags l.k (table_in l.t) l.invariant.1.1 h,
+        )
+        | else-wants_of w ↦ (
+          ap length w.t-is ∙ l.invariant.1.0,
+          ap table_in w.t-is ∙ unwanted-kept tags l.k (table_in l.t) l.invariant.1.1 h (sym flag.ensures ∙ w.if-wants_of.false),
+        )
+      ],
     )

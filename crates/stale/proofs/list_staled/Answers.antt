@@ -69,14 +69,17 @@ loop-k-preserved c =
       omega arith,
       (
         l.invariant.1.0,
-        elim c.if-is_staled.branch [ then-is_staled w ↦ (
-              ap length w.changes-is ∙ w.push.auto.s ∙ l.invariant.1.1.0,
-              ap list_in w.changes-is ∙ w.push.ensures
-                  ∙ ap (λ (m : ℕ). pushed m o (l.k % 65536)) (room_same l.changes first l.invariant.1.1.0)
-                  ∙ clipped_yes p (up_to n) (room first) l.k o done l.k 0 h (omega arith) here (staled ∙ w.if-is_staled.true),
-            ) | else-is_staled w ↦ (
-              ap length w.changes-is ∙ l.invariant.1.1.0,
-              ap list_in w.changes-is ∙ clipped_no p (up_to n) (room first) l.k o done l.k 0 h here (staled ∙ w.if-is_staled.false),
-            ) ],
+        elim c.if-is_staled.branch [
+          | then-is_staled w ↦ (
+            ap length w.changes-is ∙ w.push.auto.s ∙ l.invariant.1.1.0,
+            ap list_in w.changes-is ∙ w.push.ensures
+                ∙ ap (λ (m : ℕ). pushed m o (l.k % 65536)) (room_same l.changes first l.invariant.1.1.0)
+                ∙ clipped_yes p (up_to n) (room first) l.k o done l.k 0 h (omega arith) here (staled ∙ w.if-is_staled.true),
+          )
+          | else-is_staled w ↦ (
+            ap length w.changes-is ∙ l.invariant.1.1.0,
+            ap list_in w.changes-is ∙ clipped_no p (up_to n) (room first) l.k o done l.k 0 h here (staled ∙ w.if-is_staled.false),
+          )
+        ],
       ),
     )

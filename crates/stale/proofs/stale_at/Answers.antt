@@ -3,7 +3,6 @@ use Rattle.stale.proofs.StaleLaws.{stale_kept}
 use Rattle.stale.specs.Stale.{is_staled, tag_stale}
 use Rattle.table.specs.Table.{table_in}
 use lib.ListN.{set}
-use borrow.Author.Tests.{not-true}
 use mathlib.Core.Path.{ap, sym, ◌∙◌}
 use Rattle.stale.proofs.stale_at.Goals as goal
 

@@ -1,7 +1,6 @@
 -- `stale::stale_tag` meets its contract.
 use Rattle.stale.proofs.StaleLaws.{stale_already}
 use Rattle.stale.specs.Stale.{tag_stale}
-use borrow.Author.Tests.{not-true, not-false}
 use mathlib.Core.Path.{sym, ◌∙◌}
 use Rattle.stale.proofs.stale_tag.Goals as goal
 

@@ -66,21 +66,24 @@ loop-i-preserved c =
     let i = l.i in
     let first = sym c.is_first.ensures in (
       omega arith,
-      elim c.if-is_first.branch [ then-is_first w ↦ (
-            w.done-is ∙ ap (λ (n : ℕ). n + 1) l.invariant.1.0 ∙ sym (length_yes xs i (omega arith) (first ∙ w.if-is_first.true)),
-            (
-              ap length w.out-is ∙ w.put_group_stat.auto.out ∙ l.invariant.1.1.0,
-              w.out-is ∙ w.put_group_stat.ensures
-                  ∙ ap (λ (o : List ℕ). record_put o (5 * l.done) (f w.number_at-group.result)) l.invariant.1.1.1
-                  ∙ ap (λ (d : ℕ). record_put (over_bytes out (cell_bytes (records f (firsts (take i xs))))) (5 * d) (f w.number_at-group.result)) l.invariant.1.0
-                  ∙ ap (λ (k : ℕ). record_put (over_bytes out (cell_bytes (records f (firsts (take i xs))))) (5 * length (firsts (take i xs))) (f k)) w.number_at-group.ensures
-                  ∙ stat_next F out xs i (omega arith) (first ∙ w.if-is_first.true) (omega arith),
-            ),
-          ) | else-is_first w ↦ 
-          let same = sym (firsts_no xs i (omega arith) (first ∙ w.if-is_first.false)) in (
-            w.done-is ∙ l.invariant.1.0 ∙ ap length same,
-            (ap length w.out-is ∙ l.invariant.1.1.0, w.out-is ∙ l.invariant.1.1.1 ∙ ap (λ (ks : List ℕ). over_bytes out (cell_bytes (records f ks))) same),
-          ) ],
+      elim c.if-is_first.branch [
+        | then-is_first w ↦ (
+          w.done-is ∙ ap (λ (n : ℕ). n + 1) l.invariant.1.0 ∙ sym (length_yes xs i (omega arith) (first ∙ w.if-is_first.true)),
+          (
+            ap length w.out-is ∙ w.put_group_stat.auto.out ∙ l.invariant.1.1.0,
+            w.out-is ∙ w.put_group_stat.ensures
+                ∙ ap (λ (o : List ℕ). record_put o (5 * l.done) (f w.number_at-group.result)) l.invariant.1.1.1
+                ∙ ap (λ (d : ℕ). record_put (over_bytes out (cell_bytes (records f (firsts (take i xs))))) (5 * d) (f w.number_at-group.result)) l.invariant.1.0
+                ∙ ap (λ (k : ℕ). record_put (over_bytes out (cell_bytes (records f (firsts (take i xs))))) (5 * length (firsts (take i xs))) (f k)) w.number_at-group.ensures
+                ∙ stat_next F out xs i (omega arith) (first ∙ w.if-is_first.true) (omega arith),
+          ),
+        )
+        | else-is_first w ↦
+            let same = sym (firsts_no xs i (omega arith) (first ∙ w.if-is_first.false)) in (
+              w.done-is ∙ l.invariant.1.0 ∙ ap length same,
+              (ap length w.out-is ∙ l.invariant.1.1.0, w.out-is ∙ l.invariant.1.1.1 ∙ ap (λ (ks : List ℕ). over_bytes out (cell_bytes (records f ks))) same),
+            )
+      ],
     )
 
 pub returns : goal.returns
@@ -94,7 +97,7 @@ returns c =
     record {
       value = c.group_count-n.ensures ∙ sym (told-all F out (omega arith));
       out_after =
-        l.invariant.1.1.1
+          l.invariant.1.1.1
           ∙ ap (λ (ks : List ℕ). over_bytes out (cell_bytes (records (stat_cells F) (firsts ks)))) (take_all l.i xs (omega arith))
           ∙ sym (cells_fit out (group_stats F) (omega arith));
     }

@@ -11,5 +11,8 @@ use Rattle.readings.proofs.changes.tell_changes.Goals as goal
 pub returns : goal.returns
 returns c =
     let a = c.args in
-    let t = c.table_of in record { value = c.count.ensures; out_after = c.put_changes.ensures
-          ∙ ap (λ (ts : List Tag). wrote_all a.out.now (cell_bytes (records (change_cells ts) (list_in a.changes.now)))) (tags_read a.b.now t.result.now t.ensures) }
+    let t = c.table_of in record {
+      value = c.count.ensures;
+      out_after = c.put_changes.ensures
+          ∙ ap (λ (ts : List Tag). wrote_all a.out.now (cell_bytes (records (change_cells ts) (list_in a.changes.now)))) (tags_read a.b.now t.result.now t.ensures);
+    }

@@ -1,7 +1,6 @@
 -- `readings::kept::apply_back` meets its contract.
 use mathlib.Core.Bool.{false}
 use mathlib.Core.Path.{subst}
-use native.Mathlib.Omega.{arith}
 use lib.IntN.{ℤ}
 use mir.Syntax.{w64}
 use mir.ValLaws.{to_z-of_z}

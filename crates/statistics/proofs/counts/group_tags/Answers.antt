@@ -47,11 +47,14 @@ loop-i-preserved c =
     let xs = list_in a.order.now in
     let done = l.invariant.1.1 in (
       omega arith,
-      elim c.if-is_in_group.branch [ then-is_in_group w ↦ (
-            omega (arith, w.n-is),
-            w.n-is ∙ count_yes p xs l.i l.n done k.result (omega arith) k.ensures (sym c.is_in_group.ensures ∙ w.if-is_in_group.true),
-          ) | else-is_in_group w ↦ (
-            omega (arith, w.n-is),
-            w.n-is ∙ count_no p xs l.i l.n done k.result (omega arith) k.ensures (sym c.is_in_group.ensures ∙ w.if-is_in_group.false),
-          ) ],
+      elim c.if-is_in_group.branch [
+        | then-is_in_group w ↦ (
+          omega (arith, w.n-is),
+          w.n-is ∙ count_yes p xs l.i l.n done k.result (omega arith) k.ensures (sym c.is_in_group.ensures ∙ w.if-is_in_group.true),
+        )
+        | else-is_in_group w ↦ (
+          omega (arith, w.n-is),
+          w.n-is ∙ count_no p xs l.i l.n done k.result (omega arith) k.ensures (sym c.is_in_group.ensures ∙ w.if-is_in_group.false),
+        )
+      ],
     )

@@ -48,11 +48,14 @@ loop-i-preserved c =
     let xs = list_in a.order.now in
     let done = l.invariant.1.1 in (
       omega arith,
-      elim c.if-tier_of-tier.branch [ then-tier_of-tier w ↦ (
-            omega (arith, w.n-is),
-            w.n-is ∙ count_yes p xs l.i l.n done k.result (omega arith) k.ensures (ap (λ (n : ℕ). eqb n a.tier) (sym c.tier_of.ensures) ∙ eq-eqb _ _ w.if-tier_of-tier.true),
-          ) | else-tier_of-tier w ↦ (
-            omega (arith, w.n-is),
-            w.n-is ∙ count_no p xs l.i l.n done k.result (omega arith) k.ensures (ap (λ (n : ℕ). eqb n a.tier) (sym c.tier_of.ensures) ∙ ne_eqb _ _ w.if-tier_of-tier.false),
-          ) ],
+      elim c.if-tier_of-tier.branch [
+        | then-tier_of-tier w ↦ (
+          omega (arith, w.n-is),
+          w.n-is ∙ count_yes p xs l.i l.n done k.result (omega arith) k.ensures (ap (λ (n : ℕ). eqb n a.tier) (sym c.tier_of.ensures) ∙ eq-eqb _ _ w.if-tier_of-tier.true),
+        )
+        | else-tier_of-tier w ↦ (
+          omega (arith, w.n-is),
+          w.n-is ∙ count_no p xs l.i l.n done k.result (omega arith) k.ensures (ap (λ (n : ℕ). eqb n a.tier) (sym c.tier_of.ensures) ∙ ne_eqb _ _ w.if-tier_of-tier.false),
+        )
+      ],
     )

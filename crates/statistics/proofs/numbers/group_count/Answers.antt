@@ -42,11 +42,14 @@ loop-i-preserved c =
     let xs = all a.configured.now a.recorded.now in
     let first = sym c.is_first.ensures in (
       omega arith,
-      elim c.if-is_first.branch [ then-is_first w ↦ (
-            omega (arith, w.n-is),
-            w.n-is ∙ ap (λ (n : ℕ). n + 1) l.invariant.1.1 ∙ sym (length_yes xs l.i (omega arith) (first ∙ w.if-is_first.true)),
-          ) | else-is_first w ↦ (
-            omega (arith, w.n-is),
-            w.n-is ∙ l.invariant.1.1 ∙ sym (ap length (firsts_no xs l.i (omega arith) (first ∙ w.if-is_first.false))),
-          ) ],
+      elim c.if-is_first.branch [
+        | then-is_first w ↦ (
+          omega (arith, w.n-is),
+          w.n-is ∙ ap (λ (n : ℕ). n + 1) l.invariant.1.1 ∙ sym (length_yes xs l.i (omega arith) (first ∙ w.if-is_first.true)),
+        )
+        | else-is_first w ↦ (
+          omega (arith, w.n-is),
+          w.n-is ∙ l.invariant.1.1 ∙ sym (ap length (firsts_no xs l.i (omega arith) (first ∙ w.if-is_first.false))),
+        )
+      ],
     )

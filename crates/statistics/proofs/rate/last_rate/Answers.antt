@@ -34,11 +34,14 @@ loop-i-preserved c =
     let xs = configured_in a.configured.now in
     let x = c.configured_at-x in (
       omega arith,
-      elim c.if-x-group.branch [ then-x-group w ↦ 
-          l.invariant.1
-          ∙ rate_more l.rate xs a.group l.i x.result true (omega arith) x.ensures (eq-eqb _ _ w.if-x-group.true)
-          ∙ ap (λ (r : ℕ). last_rate_from r (drop (l.i + 1) xs) a.group) (sym w.rate-is) | else-x-group w ↦ 
-          l.invariant.1
-          ∙ rate_more l.rate xs a.group l.i x.result false (omega arith) x.ensures (ne_eqb _ _ w.if-x-group.false)
-          ∙ ap (λ (r : ℕ). last_rate_from r (drop (l.i + 1) xs) a.group) (sym w.rate-is) ],
+      elim c.if-x-group.branch [
+        | then-x-group w ↦
+            l.invariant.1
+            ∙ rate_more l.rate xs a.group l.i x.result true (omega arith) x.ensures (eq-eqb _ _ w.if-x-group.true)
+            ∙ ap (λ (r : ℕ). last_rate_from r (drop (l.i + 1) xs) a.group) (sym w.rate-is)
+        | else-x-group w ↦
+            l.invariant.1
+            ∙ rate_more l.rate xs a.group l.i x.result false (omega arith) x.ensures (ne_eqb _ _ w.if-x-group.false)
+            ∙ ap (λ (r : ℕ). last_rate_from r (drop (l.i + 1) xs) a.group) (sym w.rate-is)
+      ],
     )

@@ -1,6 +1,6 @@
 -- `tiers::set::put` meets its contract.
 use mathlib.Core.Path.{◌≡◌, ◌∙◌}
-use Rattle.tiers.specs.Tiers.{added_set, wants_set, order_set}
+use Rattle.tiers.specs.Tiers.{added_set, wants_set}
 use Rattle.board.specs.Board.{board_in, tag_at, is_bit}
 use Rattle.tiers.proofs.Laws.{put_steps}
 use Rattle.tiers.proofs.set.put.Goals as goal
