@@ -1,10 +1,10 @@
 -- Rules 5 and 6 on a board in lent memory, and the state of the rounds from its C structs.
-use Rattle.std.specs.Prelude.{Bool, ◌&&◌, cond, List, ◌≡◌, ℕ, eqb, leb, Float, length}
+use Rattle.std.specs.Prelude.{◌&&◌, cond, List, ◌≡◌, ℕ, eqb, leb, Float, length}
 use Rattle.names.specs.Directory.{max_names}
 use Rattle.lent.specs.Lent.{over_bytes}
 use Rattle.board.specs.Layout.{board_size, is_board_size, tags_in, parts_in}
 use Rattle.board.specs.Board.{Board, Holds, board_in, tag_at}
-use Rattle.rounds.specs.Round.{Round, round_of}
+use Rattle.rounds.specs.Round.{round_of}
 use Rattle.rounds.specs.Memory.{Worked}
 use Rattle.heads.specs.declared.options.Options.{Options}
 use Rattle.heads.specs.declared.cycle.Cycle.{Cycle}

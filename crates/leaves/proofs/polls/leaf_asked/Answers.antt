@@ -1,6 +1,6 @@
 -- `leaves::polls::leaf_asked` meets its contract.
 use mathlib.Core.Path.{sym, ◌∙◌}
-use Rattle.leaves.proofs.Laws.{size_passed, part-refused, part-told}
+use Rattle.leaves.proofs.Laws.{size_passed}
 use Rattle.leaves.proofs.polls.leaf_asked.Goals as goal
 
 pub asked_of-requires : goal.asked_of-requires

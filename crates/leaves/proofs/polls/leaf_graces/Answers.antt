@@ -1,6 +1,6 @@
 -- `leaves::polls::leaf_graces` meets its contract.
 use mathlib.Core.Path.{sym, ◌∙◌}
-use Rattle.leaves.proofs.Laws.{size_passed, part-refused, part-told}
+use Rattle.leaves.proofs.Laws.{size_passed}
 use Rattle.leaves.proofs.polls.leaf_graces.Goals as goal
 
 pub graces_of-requires : goal.graces_of-requires

@@ -1,6 +1,6 @@
 -- `leaves::polls::leaf_order` meets its contract.
 use mathlib.Core.Path.{sym, ◌∙◌}
-use Rattle.leaves.proofs.Laws.{size_passed, part-refused, part-told}
+use Rattle.leaves.proofs.Laws.{size_passed}
 use Rattle.leaves.proofs.polls.leaf_order.Goals as goal
 
 pub order_of-requires : goal.order_of-requires
