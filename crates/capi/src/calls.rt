@@ -20,7 +20,7 @@ use step_checks::awaiting::Answer;
 use words::value::value_from;
 
 // A tier call.
-pub extern "C" fn wz_set_tier(mem: &mut [u8], clock: f64, tag: u32, tier: u32) -> u32
+pub fn wz_set_tier(mem: &mut [u8], clock: f64, tag: u32, tier: u32) -> u32
     ensures { Called mem.old mem.new result (tier_check (worker_in mem.old) clock tag tier) (tiered (worker_in mem.old) clock tag tier) }
 {
     if size_check(mem.len()) != 0 {
@@ -38,7 +38,7 @@ pub extern "C" fn wz_set_tier(mem: &mut [u8], clock: f64, tag: u32, tier: u32) -
 }
 
 // A panel list loaded.
-pub extern "C" fn wz_load(mem: &mut [u8], clock: f64, list: &[u8]) -> u32
+pub fn wz_load(mem: &mut [u8], clock: f64, list: &[u8]) -> u32
     ensures { Called mem.old mem.new result (load_check (worker_in mem.old) clock list.now) (loaded (worker_in mem.old) clock list.now) }
 {
     if size_check(mem.len()) != 0 {
@@ -56,7 +56,7 @@ pub extern "C" fn wz_load(mem: &mut [u8], clock: f64, list: &[u8]) -> u32
 }
 
 // A write queued; the value is its kind and its bits.
-pub extern "C" fn wz_write(mem: &mut [u8], tag: u32, kind: u64, word: u64) -> u32
+pub fn wz_write(mem: &mut [u8], tag: u32, kind: u64, word: u64) -> u32
     ensures { Called mem.old mem.new result (write_check (worker_in mem.old) tag (value_from kind word)) (wrote (worker_in mem.old) tag (value_from kind word)) }
 {
     if size_check(mem.len()) != 0 {
@@ -76,7 +76,7 @@ pub extern "C" fn wz_write(mem: &mut [u8], tag: u32, kind: u64, word: u64) -> u3
 }
 
 // A stop asked for.
-pub extern "C" fn wz_stop(mem: &mut [u8]) -> u32
+pub fn wz_stop(mem: &mut [u8]) -> u32
     ensures { Called mem.old mem.new result 0 (halted (worker_in mem.old)) }
 {
     if size_check(mem.len()) != 0 {
@@ -90,7 +90,7 @@ pub extern "C" fn wz_stop(mem: &mut [u8]) -> u32
 }
 
 // A step: one answer of the host, with its list in `list`; a list that the step gives goes into `out`.
-pub extern "C" fn wz_step(
+pub fn wz_step(
     mem: &mut [u8],
     clock: f64,
     wall: i64,

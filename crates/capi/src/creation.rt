@@ -9,7 +9,7 @@ use names::directory::MAX_NAMES;
 
 // An engine in lent memory, whose length goes by the number of names. The names and all else that is handed in are needed
 // for this call alone.
-pub extern "C" fn wz_create<'a>(
+pub fn wz_create<'a>(
     mem: &mut [u8],
     names: &'a [u8],
     ends: &'a [u32],

@@ -12,7 +12,7 @@ use shown::lists::{ListLook, group_stats, listed, panel, table};
 use shown::tag::{TagLook, no_look};
 
 // The state and the version.
-pub extern "C" fn wz_state(mem: &[u8]) -> StateLook
+pub fn wz_state(mem: &[u8]) -> StateLook
     ensures { result ≡ state_look mem.now }
 {
     if size_check(mem.len()) != 0 {
@@ -23,7 +23,7 @@ pub extern "C" fn wz_state(mem: &[u8]) -> StateLook
 }
 
 // The statistics of the rounds.
-pub extern "C" fn wz_stats(mem: &[u8]) -> StatsLook
+pub fn wz_stats(mem: &[u8]) -> StatsLook
     ensures { result ≡ stats_look mem.now }
 {
     if size_check(mem.len()) != 0 {
@@ -34,7 +34,7 @@ pub extern "C" fn wz_stats(mem: &[u8]) -> StatsLook
 }
 
 // How many tags are in each tier.
-pub extern "C" fn wz_tier_counts(mem: &[u8]) -> CountsLook
+pub fn wz_tier_counts(mem: &[u8]) -> CountsLook
     ensures { result ≡ counts_look mem.now }
 {
     if size_check(mem.len()) != 0 {
@@ -44,7 +44,7 @@ pub extern "C" fn wz_tier_counts(mem: &[u8]) -> CountsLook
 }
 
 // The groups' statistics: number, rate, tags in tier 1, 1 where there is a period, and its bits.
-pub extern "C" fn wz_group_stats(mem: &[u8], out: &mut [u8]) -> ListLook
+pub fn wz_group_stats(mem: &[u8], out: &mut [u8]) -> ListLook
     ensures value { result ≡ listed (group_check mem.now out.old) (group_count (worker_in mem.now) out.old) }
     ensures out_after { out.new ≡ left_in (group_check mem.now out.old) out.old (group_cells (worker_in mem.now)) }
 {
@@ -55,7 +55,7 @@ pub extern "C" fn wz_group_stats(mem: &[u8], out: &mut [u8]) -> ListLook
 }
 
 // The table in table order: tag and tier.
-pub extern "C" fn wz_table(mem: &[u8], out: &mut [u8]) -> ListLook
+pub fn wz_table(mem: &[u8], out: &mut [u8]) -> ListLook
     ensures value { result ≡ listed (table_check mem.now out.old) (table_count (worker_in mem.now) out.old) }
     ensures out_after { out.new ≡ left_in (table_check mem.now out.old) out.old (records (row_cells (worker_in mem.now).board) (worker_in mem.now).board.table.order) }
 {
@@ -66,7 +66,7 @@ pub extern "C" fn wz_table(mem: &[u8], out: &mut [u8]) -> ListLook
 }
 
 // The panel list; `count` is its length in bytes.
-pub extern "C" fn wz_panel(mem: &[u8], out: &mut [u8]) -> ListLook
+pub fn wz_panel(mem: &[u8], out: &mut [u8]) -> ListLook
     ensures value { result ≡ listed (panel_code mem.now out.old) (panel_count (worker_in mem.now) out.old) }
     ensures out_after { out.new ≡ panel_left (panel_code mem.now out.old) out.old (panel_bytes (worker_in mem.now)) }
 {
@@ -77,7 +77,7 @@ pub extern "C" fn wz_panel(mem: &[u8], out: &mut [u8]) -> ListLook
 }
 
 // A tag: its tier, its cached entry and its description.
-pub extern "C" fn wz_tag(mem: &[u8], tag: u32) -> TagLook
+pub fn wz_tag(mem: &[u8], tag: u32) -> TagLook
     ensures { result ≡ tag_look mem.now tag }
 {
     if size_check(mem.len()) != 0 {

@@ -1,4 +1,6 @@
 // What looks answer, by the head and the board. The entry points in `capi` lend them their parts of the memory.
+#![tactic(auto)]
+
 mod found; // what they find on the board
 pub mod counts; // how many tags are in each tier
 pub mod head; // the state, the statistics of the rounds

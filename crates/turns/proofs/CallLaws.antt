@@ -10,7 +10,7 @@ use lib.Ieee.{Float, of_bits, le, lt}
 use lib.Ieee.Scale.{finite}
 use lib.ListN.{length, get_or, drop, replicate, length-take, length-drop, length-replicate, get_or-replicate, get_or-eq_default}
 use borrow.Author.Tests.{leb-false, eqb-true, ltb-true, ltb-false}
-use Rattle.lists.specs.Keep.{count, Below}
+use Rattle.lists.specs.Keep.{Below}
 use Rattle.lists.proofs.KeepLaws.{below_more}
 use Rattle.ieee.specs.Round.{slices_of}
 use Rattle.ieee.specs.Times.{clock_ok}

@@ -8,8 +8,8 @@ use borrow.Author.Tests.{leb-false}
 use lib.Dec.{eqb, ltb, leb}
 use lib.Ieee.{Float, le, add, binary64}
 use lib.ListN.{length}
-use Rattle.lists.specs.Keep.{keep, Below}
-use Rattle.lists.proofs.KeepLaws.{below-append, below-keep, below-take}
+use Rattle.lists.specs.Keep.{Below}
+use Rattle.lists.proofs.KeepLaws.{below-append, below-keep}
 use Rattle.tags.specs.Lists.{pushed, member}
 use Rattle.table.specs.Tag.{f0, no_grace}
 use Rattle.table.specs.declared.tag.Grace.{Grace}

@@ -7,10 +7,9 @@ use Prim.Native.Nat.{ℕ, ◌≤◌}
 use native.Mathlib.Omega.{arith}
 use lib.ListN.{length}
 use Rattle.lists.specs.Slices.{slice}
-use Rattle.lists.specs.Sort.{sort, by_keys}
+use Rattle.lists.specs.Sort.{by_keys}
 use Rattle.ieee.specs.Round.{slices_of}
 use Rattle.names.specs.Directory.{names_of, max_names}
-use Rattle.names.specs.Keys.{by_name}
 use Rattle.slices.specs.Slice.{tier2_tags}
 use Rattle.rounds.specs.Round.{Round}
 use Rattle.heads.specs.declared.options.Options.{Options}

@@ -17,7 +17,7 @@ use Rattle.ieee.proofs.Finite.{clock_finite}
 use Rattle.ranks.specs.Ranks.{keys_of}
 use Rattle.tiers.specs.Listed.{Listed, in_tier}
 use Rattle.slices.specs.Slice.{is_tier2, tier2_tags}
-use Rattle.rounds.specs.Round.{Round, Polling, round, polling_of}
+use Rattle.rounds.specs.Round.{Round, Polling, polling_of}
 use Rattle.heads.specs.declared.options.Options.{Options}
 use Rattle.heads.specs.declared.cycle.Cycle.{Cycle}
 use Rattle.turns.proofs.TierLaws.{tier_same, tags_long, tier2_same, tier2_once}

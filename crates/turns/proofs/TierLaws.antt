@@ -2,16 +2,13 @@
 use mathlib.Core.Path.{◌≡◌, refl, ap, sym, ◌∙◌}
 use mathlib.Core.Bool.{Bool, true, false, cond}
 use mathlib.Core.List.{List, [], ◌∷◌, map}
-use Prim.Native.Nat.{ℕ, zero, suc, ◌≤◌}
-use native.Mathlib.Omega.{arith}
+use Prim.Native.Nat.{ℕ, zero, suc}
 use lib.Dec.{eqb}
-use lib.ListN.{length, get_or, set, take}
-use lib.Seq.{take_all}
+use lib.ListN.{length, get_or, set}
 use borrow.Author.Tests.{eqb-true}
 use Rattle.lists.specs.Keep.{keep, count}
 use Rattle.lists.specs.Sort.{sort}
-use Rattle.lists.proofs.KeepLaws.{count-keep, count-keep_none, length-keep}
-use Rattle.lists.proofs.CountLaws.{length_few}
+use Rattle.lists.proofs.KeepLaws.{count-keep, count-keep_none}
 use Rattle.lists.proofs.SortLaws.{count-sort}
 use Rattle.memory.proofs.RowLaws.{map_at}
 use Rattle.table.specs.Tag.{fresh_tag}
@@ -19,7 +16,6 @@ use Rattle.table.specs.declared.tag.Settings.{Settings}
 use Rattle.table.specs.declared.tag.Tag.{Tag}
 use Rattle.board.specs.Board.{Table, tag_at, with_tags}
 use Rattle.tiers.specs.Listed.{in_tier, Listed}
-use Rattle.tiers.proofs.ListedLaws.{order_below}
 use Rattle.slices.specs.Slice.{is_tier2, tier2_tags}
 
 -- ---- the tiers of a table's tags

@@ -1,1 +1,3 @@
+#![tactic(auto)]
+
 // No list is ever cut for want of room, of an engine or of a look: specs/ and proofs/. It has no code.

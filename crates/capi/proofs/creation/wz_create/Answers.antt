@@ -7,7 +7,7 @@ use native.Mathlib.Omega.{arith}
 use lib.ListN.{length}
 use Rattle.replies.specs.Worker.{Worker, worker}
 use Rattle.checks.specs.Creation.{Setup}
-use Rattle.capi.specs.Memory.{memory_size, size_check}
+use Rattle.capi.specs.Memory.{size_check}
 use Rattle.capi.proofs.Laws.{size-right}
 use Rattle.capi.proofs.CallLaws.{no_names, many_names, other_size, not_made, is_made, all-configured}
 use borrow.Author.Rules.{rules}

@@ -63,6 +63,9 @@ returns c =
     let out = c.args.out.now in
     let xs = B.table.order in
     let l = c.loop-i in
-    let n = c.order_count-n in record { value = n.ensures; out_after = l.invariant.1.1
+    let n = c.order_count-n in record {
+      value = n.ensures;
+      out_after = l.invariant.1.1
           ∙ ap (λ (ks : List ℕ). over_bytes out (cell_bytes (records (row_cells B) ks))) (take_all l.i xs (omega (arith, n.ensures)))
-          ∙ sym (cells_fit out (records (row_cells B) xs) (omega (arith, length-records (row_cells B) 2 (λ k. refl) xs, n.ensures))) }
+          ∙ sym (cells_fit out (records (row_cells B) xs) (omega (arith, length-records (row_cells B) 2 (λ k. refl) xs, n.ensures)));
+    }
