@@ -1,7 +1,7 @@
 #!/bin/sh
 # The operator's board of a club layout, over a simulated command station: board.sh [OPTION ...]
 #   OPTION ...    as for the example; --help has them
-#   WORDZIKE_LIB  an archive to use instead of the one that `rt staticlib capi` proves and writes
+#   WORDZIKE_LIB  an archive to use instead of the one that `oracle/archive.sh capi` proves and writes
 # Needs rt and cargo, and no network. The proofs behind the archive take some minutes the first time.
 set -eu
 here=$(cd "$(dirname "$0")" && pwd)
@@ -10,7 +10,7 @@ archive=$top/target/staticlib/libcapi.a
 
 # true if the archive is missing, or a source of a crate has changed since
 old() {
-    [ ! -f "$archive" ] || [ -n "$(find "$top/crates" "$top/crates.txt" -type f -newer "$archive" -print | head -n 1)" ]
+    [ ! -f "$archive" ] || [ -n "$(find "$top/crates" "$top/crates.txt" -type d -name out -prune -o -type f -newer "$archive" -print | head -n 1)" ]
 }
 
 if [ -n "${WORDZIKE_LIB:-}" ]; then
@@ -19,7 +19,9 @@ if [ -n "${WORDZIKE_LIB:-}" ]; then
     export WORDZIKE_LIB
 elif old; then
     echo "board.sh: rt proves the engine and writes its archive; from a fresh clone this takes some minutes" >&2
-    (cd "$top" && rt staticlib capi) >&2
+    "$top/oracle/archive.sh" capi >/dev/null
+    # also where it is as it was, so that it is not found old again
+    touch "$archive"
 fi
 # here cargo finds .cargo/config.toml, which keeps what it builds below target/
 cd "$here"

@@ -1,4 +1,4 @@
-//! Links the engine's archive: `$WORDZIKE_LIB`, or what `rt staticlib capi` writes.
+//! Links the engine's archive: `$WORDZIKE_LIB`, or what `oracle/archive.sh capi` writes.
 
 use std::env;
 use std::path::PathBuf;
@@ -10,7 +10,7 @@ fn main() {
     println!("cargo:rerun-if-changed={}", from.display());
     let folder = PathBuf::from(env::var_os("OUT_DIR").expect("cargo sets OUT_DIR"));
     if let Err(e) = std::fs::copy(&from, folder.join("libwordzike_engine.a")) {
-        panic!("{}: {e}. `rt staticlib capi` writes the archive; WORDZIKE_LIB names another.", from.display());
+        panic!("{}: {e}. `oracle/archive.sh capi` writes the archive; WORDZIKE_LIB names another.", from.display());
     }
     println!("cargo:rustc-link-search=native={}", folder.display());
     println!("cargo:rustc-link-lib=static=wordzike_engine");

@@ -1,5 +1,5 @@
 /* Wordzike: a polling engine for programmable controllers, as C functions. For x86-64, System V calling convention. Link
- * target/staticlib/libcapi.a, which `rt staticlib capi` proves and writes. docs/HOST.md is a guide.
+ * target/staticlib/libcapi.a, which `oracle/archive.sh capi` proves and writes. docs/HOST.md is a guide.
  *
  * The host lends all memory and does all input and output. An engine over so many names is WZ_MEMORY(count) bytes that
  * wz_create fills; what they hold is the engine's own affair, and nobody else may write them. They may be copied, moved and

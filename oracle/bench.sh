@@ -3,7 +3,7 @@
 #   FOLDER  the Rust's sources, as for build.sh
 #   ROUNDS  how many rounds a repetition (default 3000)
 #   OUT     as for build.sh
-#   CAPI    an archive to time instead of the one that `rt staticlib capi` proves and writes
+#   CAPI    an archive to time instead of the one that `archive.sh capi` proves and writes
 set -eu
 here=$(cd "$(dirname "$0")" && pwd)
 archive=${CAPI:-$("$here/archive.sh" capi)}

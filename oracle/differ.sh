@@ -6,7 +6,7 @@
 #   N       answers in a history, about (default 80)
 #   PROFILE ...  as for `oracle gen` (default: all that are within document 01)
 #   OUT     as for build.sh
-#   CAPI    an archive to compare instead of the one that `rt staticlib capi` proves and writes
+#   CAPI    an archive to compare instead of the one that `archive.sh capi` proves and writes
 set -eu
 here=$(cd "$(dirname "$0")" && pwd)
 folder=${1:-}

@@ -3,7 +3,7 @@
 #   FOLDER  the Rust's sources, as for build.sh
 #   SEED, COUNT  which random inputs (default 1), and how many a function (default 1000000)
 #   OUT     as for build.sh
-#   LEAVES  an archive to compare instead of the one that `rt staticlib leaves` proves and writes
+#   LEAVES  an archive to compare instead of the one that `archive.sh leaves` proves and writes
 set -eu
 here=$(cd "$(dirname "$0")" && pwd)
 archive=${LEAVES:-$("$here/archive.sh" leaves)}

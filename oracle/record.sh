@@ -2,7 +2,7 @@
 # Records the answers that crates/replay replays: record.sh [FOLDER]
 #   FOLDER  the Rust's sources, as for build.sh
 #   OUT     as for build.sh
-#   CAPI    an archive to record instead of the one that `rt staticlib capi` proves and writes
+#   CAPI    an archive to record instead of the one that `archive.sh capi` proves and writes
 #   TO      where to write the files `stdin` and `stdout` (default: crates/replay)
 # All histories have to be as the Rust's; otherwise nothing is written.
 set -eu

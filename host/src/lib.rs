@@ -1,5 +1,5 @@
 //! A polling engine for programmable controllers: it decides which tags are read in which round, merges what comes back,
-//! and says what changed. The engine is proved code in an archive that `rt staticlib capi` writes; this crate is a safe
+//! and says what changed. The engine is proved code in an archive that `oracle/archive.sh capi` writes; this crate is a safe
 //! wrapper over it. `WORDZIKE_LIB` names the archive if it is elsewhere than `target/staticlib/libcapi.a`.
 //!
 //! `docs/HOST.md` is a guide for hosts, and `examples/board` is one.

@@ -2,7 +2,7 @@
 # Tries the header and the archive: run.sh [SEED] [COUNT]
 #   SEED, COUNT  of the damaged input (default 1, and 1000000 calls)
 #   OUT     where to build (default: target/include in the repository)
-#   CAPI    an archive to try instead of the one that `rt staticlib capi` proves and writes
+#   CAPI    an archive to try instead of the one that `oracle/archive.sh capi` proves and writes
 # Compiles calls.c as C and as C++ and runs it, the loop of docs/HOST.md, and stack.c, which measures the stack that the
 # functions take; then damaged.c, at pages that may not be touched and, with a fiftieth of the calls, under valgrind where
 # that is installed.
