@@ -7,7 +7,7 @@ use borrow.Author.Tests.{eq-eqb, ne_eqb}
 use lib.Dec.{eqb}
 use lib.ListN.{length}
 use Rattle.shown.specs.Looks.{listed, short_of}
-use Rattle.shown.specs.declared.lists.ListLook.{ListLook}
+use Rattle.shown.specs.declared.list_looks.ListLook.{ListLook}
 use Rattle.capi.specs.Memory.{not_an_engine, size_check, IsEngine}
 use Rattle.capi.specs.Looks.{is_engine, room_check}
 

@@ -20,7 +20,7 @@ use Rattle.shown.specs.Looks.{listed, left_in, panel_left, row_cells}
 use Rattle.shown.specs.declared.head.StateLook.{StateLook}
 use Rattle.shown.specs.declared.head.StatsLook.{StatsLook}
 use Rattle.shown.specs.declared.counts.CountsLook.{CountsLook}
-use Rattle.shown.specs.declared.lists.ListLook.{ListLook}
+use Rattle.shown.specs.declared.list_looks.ListLook.{ListLook}
 use Rattle.shown.specs.declared.tag.TagLook.{TagLook}
 use Rattle.capi.specs.Memory.{size_check, worker_in, Called}
 use Rattle.checks.specs.Calls.{tier_check, load_check, write_check}

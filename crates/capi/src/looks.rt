@@ -8,7 +8,7 @@ ghost use Rattle.capi.specs.Looks.{state_look, stats_look, counts_look, group_ce
 use super::whole::{NOT_AN_ENGINE, board_of, head_of, size_check};
 use shown::counts::{CountsLook, counts_of, no_counts};
 use shown::head::{StateLook, StatsLook, no_state, no_stats, state_of, stats_of};
-use shown::lists::{ListLook, group_stats, listed, panel, table};
+use shown::list_looks::{ListLook, group_stats, listed, panel, table};
 use shown::tag::{TagLook, no_look};
 
 // The state and the version.

@@ -5,7 +5,7 @@ ghost use Rattle.capi.specs.Memory.{interface_number, size_for, list_size, group
 use super::whole::memory_size;
 use lent::changes::CHANGE;
 use names::directory::MAX_NAMES;
-use shown::lists::PANEL;
+use shown::list_looks::PANEL;
 
 // The number of this interface, for a host to compare with the one that it was compiled for.
 pub fn wz_interface() -> u64

@@ -8,7 +8,7 @@ ghost use Rattle.capi.specs.Looks.{state_look, stats_look, counts_look, group_ce
 use capi::looks;
 use shown::counts::CountsLook;
 use shown::head::{StateLook, StatsLook};
-use shown::lists::ListLook;
+use shown::list_looks::ListLook;
 use shown::tag::TagLook;
 
 // The state and the version.

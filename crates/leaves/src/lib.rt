@@ -2,6 +2,6 @@
 #![tactic(auto)]
 
 pub mod directories;
-pub mod entries;
+pub mod entry_leaves;
 pub mod numbers;
 pub mod polls;

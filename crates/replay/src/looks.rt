@@ -3,7 +3,7 @@ use crate::calls::small;
 use capi::looks::{wz_group_stats, wz_panel, wz_state, wz_stats, wz_table, wz_tag, wz_tier_counts};
 use frames::answer::Answered;
 use shown::head::StatsLook;
-use shown::lists::ListLook;
+use shown::list_looks::ListLook;
 use shown::tag::TagLook;
 use words::scalar::{word_of_float, word_of_int};
 

@@ -16,7 +16,7 @@ use Rattle.statistics.proofs.StatLaws.{told_few}
 use Rattle.board.specs.Layout.{table, order, configured, groups, recorded, parts_in}
 use Rattle.board.specs.Board.{Board, board_from, board_in}
 use Rattle.shown.specs.Looks.{listed, short_of, group_cells, group_count, panel_bytes, panel_count, facts_of, row_cells}
-use Rattle.shown.specs.declared.lists.ListLook.{ListLook}
+use Rattle.shown.specs.declared.list_looks.ListLook.{ListLook}
 
 -- ---- what statistics go by, part by part of the board
 

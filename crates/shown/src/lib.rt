@@ -4,5 +4,5 @@
 mod found; // what they find on the board
 pub mod counts; // how many tags are in each tier
 pub mod head; // the state, the statistics of the rounds
-pub mod lists; // group statistics, the table, the panel list
+pub mod list_looks; // group statistics, the table, the panel list
 pub mod tag; // a tag

@@ -12,7 +12,7 @@ use Rattle.shown.specs.Looks.{state_of, stats_of, counts_of, listed, left_in, pa
 use Rattle.shown.specs.declared.head.StateLook.{StateLook}
 use Rattle.shown.specs.declared.head.StatsLook.{StatsLook}
 use Rattle.shown.specs.declared.counts.CountsLook.{CountsLook}
-use Rattle.shown.specs.declared.lists.ListLook.{ListLook}
+use Rattle.shown.specs.declared.list_looks.ListLook.{ListLook}
 use Rattle.shown.specs.declared.tag.TagLook.{TagLook}
 use Rattle.checks.specs.Calls.{no_tag, tier_check, load_check, write_check}
 use Rattle.capi.specs.Calls.{tiered, loaded, wrote, halted, answer_of}

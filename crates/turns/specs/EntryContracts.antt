@@ -9,7 +9,7 @@ use Rattle.replies.specs.declared.reply.Reply.{Reply}
 use Rattle.shown.specs.declared.head.StateLook.{StateLook}
 use Rattle.shown.specs.declared.head.StatsLook.{StatsLook}
 use Rattle.shown.specs.declared.counts.CountsLook.{CountsLook}
-use Rattle.shown.specs.declared.lists.ListLook.{ListLook}
+use Rattle.shown.specs.declared.list_looks.ListLook.{ListLook}
 use Rattle.shown.specs.declared.tag.TagLook.{TagLook}
 use Rattle.checks.specs.Creation.{Setup}
 use Rattle.capi.proofs.creation.wz_create.Reads as create-contract

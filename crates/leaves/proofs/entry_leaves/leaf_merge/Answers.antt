@@ -1,10 +1,10 @@
--- `leaves::entries::leaf_merge` meets its contract.
+-- `leaves::entry_leaves::leaf_merge` meets its contract.
 use mathlib.Core.Path.{ap, ◌∙◌}
 use mir.Syntax.{w64}
 use mir.ValLaws.{to_z-of_z}
 use Rattle.values.specs.Entry.{merged}
 use Rattle.values.specs.declared.entry.Held.TheVariants.{Is}
-use Rattle.leaves.proofs.entries.leaf_merge.Goals as goal
+use Rattle.leaves.proofs.entry_leaves.leaf_merge.Goals as goal
 
 pub returns : goal.returns
 returns c =

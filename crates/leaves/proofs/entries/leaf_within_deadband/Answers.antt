@@ -1,5 +1,0 @@
--- `leaves::entries::leaf_within_deadband` meets its contract.
-use Rattle.leaves.proofs.entries.leaf_within_deadband.Goals as goal
-
-pub returns : goal.returns
-returns c = simp (c.within_deadband.ensures, c.entry_from-y.ensures, c.entry_from-x.ensures)
