@@ -9,6 +9,7 @@ use names::directory::MAX_NAMES;
 
 // An engine in lent memory, whose length goes by the number of names. The names and all else that is handed in are needed
 // for this call alone.
+#[tactic(auto, using(crate::proofs::CallLaws::many_names))]
 pub fn wz_create<'a>(
     mem: &mut [u8],
     names: &'a [u8],

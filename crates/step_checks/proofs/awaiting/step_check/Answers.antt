@@ -4,6 +4,7 @@ use mathlib.Core.Bool.{true, false}
 use Prim.Native.Nat.{ℕ, ◌/◌}
 use lib.Dec.{ltb}
 use lib.Ieee.{lt}
+use native.Mathlib.Omega.{arith}
 use borrow.Author.Tests.{lt-ltb, le-ltb}
 use Rattle.names.specs.Directory.{max_names}
 use Rattle.ieee.specs.Times.{clock_ok}
@@ -24,7 +25,7 @@ pub returns-then-not-is_clock : goal.returns-then-not-is_clock
 unfolding step_check
 returns-then-not-is_clock c =
     let a = c.args in
-    let room : ltb (a.room / change_size) max_names ≡ false = le-ltb _ _ c.if-room-lt-MAX_NAMES.false in
+    let room : ltb (a.room / change_size) max_names ≡ false = le-ltb _ _ (omega arith) in
     let clock : clock_ok a.clock ≡ false = sym c.is_clock.ensures ∙ c.if-not-is_clock.true in
     simp (room, clock)
 
@@ -32,7 +33,7 @@ pub returns-then-clock-e : goal.returns-then-clock-e
 unfolding step_check
 returns-then-clock-e c =
     let a = c.args in
-    let room : ltb (a.room / change_size) max_names ≡ false = le-ltb _ _ c.if-room-lt-MAX_NAMES.false in
+    let room : ltb (a.room / change_size) max_names ≡ false = le-ltb _ _ (omega arith) in
     let clock : clock_ok a.clock ≡ true = sym c.is_clock.ensures ∙ c.if-not-is_clock.false in
     let late : lt a.clock a.e.clock ≡ true = c.if-clock-e.true in
     simp (room, clock, late)
@@ -41,7 +42,7 @@ pub returns-then-not-answers : goal.returns-then-not-answers
 unfolding step_check
 returns-then-not-answers c =
     let a = c.args in
-    let room : ltb (a.room / change_size) max_names ≡ false = le-ltb _ _ c.if-room-lt-MAX_NAMES.false in
+    let room : ltb (a.room / change_size) max_names ≡ false = le-ltb _ _ (omega arith) in
     let clock : clock_ok a.clock ≡ true = sym c.is_clock.ensures ∙ c.if-not-is_clock.false in
     let late : lt a.clock a.e.clock ≡ false = c.if-clock-e.false in
     let x = answer a.a a.list.now in
@@ -55,7 +56,7 @@ pub returns : goal.returns
 unfolding step_check
 returns c =
     let a = c.args in
-    let room : ltb (a.room / change_size) max_names ≡ false = le-ltb _ _ c.if-room-lt-MAX_NAMES.false in
+    let room : ltb (a.room / change_size) max_names ≡ false = le-ltb _ _ (omega arith) in
     let clock : clock_ok a.clock ≡ true = sym c.is_clock.ensures ∙ c.if-not-is_clock.false in
     let late : lt a.clock a.e.clock ≡ false = c.if-clock-e.false in
     let x = answer a.a a.list.now in
