@@ -1,2 +1,3 @@
 -- Laws of the board and of its parts.
 pub mod BoardLaws
+pub mod Links

@@ -3,3 +3,4 @@ pub mod Laws
 pub mod CallLaws
 pub mod LookLaws
 pub mod Said
+pub mod Links

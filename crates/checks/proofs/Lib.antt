@@ -1,2 +1,3 @@
 -- Laws of checks.
 pub mod Laws
+pub mod Links

@@ -1,2 +1,3 @@
 -- Laws of what a step goes on to.
 pub mod PollingLaws
+pub mod Links

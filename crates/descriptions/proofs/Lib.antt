@@ -1,2 +1,3 @@
 -- Laws of descriptions.
 pub mod Laws
+pub mod Links

@@ -1,2 +1,3 @@
 -- Laws of the head.
 pub mod Laws
+pub mod Links

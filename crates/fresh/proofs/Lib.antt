@@ -1,2 +1,3 @@
 -- What zeros hold.
 pub mod FreshLaws
+pub mod Links

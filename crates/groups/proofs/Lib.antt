@@ -1,2 +1,3 @@
 -- Laws of groups in memory.
 pub mod Laws
+pub mod Links

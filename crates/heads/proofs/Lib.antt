@@ -1,2 +1,3 @@
 -- Laws of the head's parts.
 pub mod Laws
+pub mod Links

@@ -11,3 +11,4 @@ pub mod Sums
 pub mod Finite
 pub mod Least
 pub mod Bound
+pub mod Links

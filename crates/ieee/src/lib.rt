@@ -4,6 +4,7 @@
 #![tactic(auto)]
 
 pub mod band;
+mod casts;
 pub mod number;
 pub mod round;
 pub mod times;

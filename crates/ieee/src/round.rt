@@ -5,6 +5,8 @@ ghost use Rattle.std.specs.Float.{binary64};
 ghost use Rattle.std.specs.Float.Ieee.{of_int, to_unsigned};
 ghost use Rattle.ieee.specs.Round.{round_ties_even, slices_of, round1_of};
 
+use crate::casts;
+
 // Rust's `round_ties_even`. A sum of 2^52 or more has no place for a fraction, so adding 2^52 to a
 // smaller number rounds it to whole, with ties to even as every sum has them, and taking 2^52 off
 // again is exact. From 2^52 on a float is whole already. The sign is handled apart, and a zero keeps
@@ -35,7 +37,7 @@ pub fn to_u64(x: f64) -> u64
 {
     if x > -1.0 {
         if x < 18446744073709551616.0 {
-            std::num::truncating_f64_to_u64(x)
+            casts::whole_part(x)
         } else {
             u64::MAX
         }
@@ -66,5 +68,5 @@ pub fn round1(v: f64) -> f64
 pub fn from_i64(n: i64) -> f64
     ensures { result ≡ of_int binary64 n }
 {
-    std::num::nearest_i64_to_f64(n)
+    casts::from_i64(n)
 }

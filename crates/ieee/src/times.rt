@@ -2,6 +2,8 @@
 ghost use Rattle.std.specs.Prelude.{◌≡◌};
 ghost use Rattle.ieee.specs.Times.{rate_seconds, due_at, least, held_back, clock_ok};
 
+use crate::casts;
+
 // A rate, given in milliseconds.
 pub fn rate_seconds(ms: u32) -> f64
     ensures { result ≡ rate_seconds ms }
@@ -13,7 +15,7 @@ pub fn rate_seconds(ms: u32) -> f64
 pub fn seconds(ms: u64) -> f64
     ensures { result ≡ rate_seconds ms }
 {
-    std::num::nearest_u64_to_f64(ms) / 1000.0
+    casts::from_u64(ms) / 1000.0
 }
 
 // Whether a tag or a boundary last met at `last` is due again, `half` being half a tick.

@@ -5,3 +5,4 @@ pub mod CellLaws
 pub mod HalfLaws
 pub mod LoopLaws
 pub mod RowLaws
+pub mod Links

@@ -6,3 +6,4 @@ pub mod BitLaws
 pub mod KeyLaws
 pub mod WordLaws
 pub mod Examples
+pub mod Links

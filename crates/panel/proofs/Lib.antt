@@ -5,3 +5,4 @@ pub mod WriteLaws
 pub mod RoundTrip
 pub mod GraceLaws
 pub mod LoadLaws
+pub mod Links

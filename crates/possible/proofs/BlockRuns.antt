@@ -5,7 +5,7 @@ use mathlib.Core.List.{List, [], ◌∷◌}
 use mathlib.Core.Option.{some}
 use Prim.Native.Nat.{ℕ, ◌+◌}
 use seplogic.Ra.Ura.{Ura}
-use seplogic.Ra.TreeShare.{full_share}
+use base.Fraction.{full_share}
 use seplogic.Bi.Sat
 use seplogic.Bi.Sat.{Sat}
 use lib.Dec.{T}
@@ -13,7 +13,7 @@ use lib.ListN.{length}
 use mir.Syntax.{Width, Ty, named, ty_int, ty_array}
 use mir.Val.{Val, vint, bytes, WT, has_ty}
 use base.Logic.{SProp, ent, sep, ex, emp, upd, guard, via, comm∗, assoc∗, assoc', mono_l, mono_r, fst∗, snd∗, emp∗, id⊢, ex_i, ex∗, upd_mono, upd_frame, Sat_exists}
-use base.Fml.{GName, fat}
+use base.Fml.{Incl-refl, fat}
 use prog.Memory.{Memory, alloc_m, store_m}
 use prog.Wp.{Heap, run}
 use prog.Model.{Model, AllFit}
@@ -21,6 +21,7 @@ use types.Logic.{Logic, sem}
 use types.Kit.{‵, raw, ◌$◌, ◌∵◌, !, qed, by, use1, feq_i, fjoin, frame, done}
 use types.Share.{parts, arr_parts}
 use contract.Adequate.{Satisfies, sat_weaken, sat_upd}
+use denote.Copied.{uint_Copied}
 use denote.Lend.{lends_shr_slice}
 use denote.Memory.{part_at, mem as mem-of, shares}
 use denote.Plain.{UInt, uint_in}
@@ -101,9 +102,10 @@ module _ {M : Type 1} {𝓤 : Ura M} (𝓛 : Logic 𝓤) (w : Width) (b : ℕ) w
       qed 𝓛 (‵ (fat full_share (ty_int w) b i (vint w y)) ∷ raw (run 𝓤 H full_share w b (i + bytes w) ys) ∷ []) ∵
       use1 𝓛 (‵ (part_at (UInt w) full_share y b i)) (uint_in 𝓛 full_share w y b i) $ frame ! $ by ! (to_elements ys (i + bytes w))
 
-  pub lent_numbers : (j α o : ℕ) (xs : List ℕ) → Room (UInt w) (length xs) → ent 𝓤 (run 𝓤 H full_share w b o xs)
-      (H.⇛ (ex 𝓤 (λ (δ : GName). sep 𝓤 (sem 𝓛 ((ShrSlice (named j) (α ∷ []) (UInt w)).own_val (record { ref_ptr = (b, o); now = xs }) (slice_val (b, o) (length xs) ∷ []))) (A.lent (α ∷ []) ((arr_parts (shares (UInt w)) (length xs)).part full_share xs b o)))))
+  -- lent with a token of the lifetime, which comes back
+  pub lent_numbers : (j α o : ℕ) (xs : List ℕ) → Room (UInt w) (length xs) → ent 𝓤 (sep 𝓤 (run 𝓤 H full_share w b o xs) (A.lft (α ∷ []) full_share))
+      (H.⇛ (sep 𝓤 (sep 𝓤 (sem 𝓛 ((ShrSlice (named j) (α ∷ []) (UInt w)).own_val (record { ref_ptr = (b, o); now = xs }) (slice_val (b, o) (length xs) ∷ []))) (A.lent (α ∷ []) ((arr_parts (shares (UInt w)) (length xs)).part full_share xs b o))) (A.lft (α ∷ []) full_share)))
   lent_numbers j α o xs room =
-      via 𝓤 (sem 𝓛 ((arr_parts (shares (UInt w)) (length xs)).part full_share xs b o))
-      (qed 𝓛 (raw (run 𝓤 H full_share w b o xs) ∷ []) ∵ use1 𝓛 (‵ (parts (mem-of (UInt w)) (shares (UInt w)) full_share xs b o)) (to_elements xs o) $ feq_i ! ℕ (length xs) (length xs) refl $ fjoin ! $ done !)
-      (lends_shr_slice 𝓛 (UInt w) (named j) (α ∷ []) full_share xs b o room)
+      via 𝓤 (sep 𝓤 (sem 𝓛 ((arr_parts (shares (UInt w)) (length xs)).part full_share xs b o)) (A.lft (α ∷ []) full_share))
+      (mono_l 𝓤 (A.lft (α ∷ []) full_share) (qed 𝓛 (raw (run 𝓤 H full_share w b o xs) ∷ []) ∵ use1 𝓛 (‵ (parts (mem-of (UInt w)) (shares (UInt w)) full_share xs b o)) (to_elements xs o) $ feq_i ! ℕ (length xs) (length xs) refl $ fjoin ! $ done !))
+      (lends_shr_slice 𝓛 (UInt w) (named j) (α ∷ []) full_share xs b o room (α ∷ []) ((uint_Copied 𝓛 w).shares full_share (α ∷ [])) ((α ∷ [], full_share) ∷ []) (Incl-refl (α ∷ [])) (Incl-refl (α ∷ [])))

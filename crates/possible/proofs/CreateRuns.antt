@@ -5,13 +5,13 @@ use mathlib.Core.Logic.{∥∥₁_prop, ∥∥₁_elim, ∥∥₁_map}
 use mathlib.Core.List.{List, [], ◌∷◌}
 use Prim.Native.Nat.{ℕ}
 use seplogic.Ra.Ura.{Ura}
-use seplogic.Ra.TreeShare.{full_share}
+use base.Fraction.{full_share}
 use lib.Ieee.{binary64, fits}
 use lib.ListN.{length}
 use mir.Syntax.{named, w8, w32}
 use mir.Val.{Val}
 use base.Logic.{SProp, ent, sep, ex, emp, via, mono_r, ex_i, fst∗}
-use base.Fml.{GName, flent}
+use base.Fml.{GName, flft, flent}
 use prog.Memory.{Memory}
 use prog.Wp.{run}
 use prog.Model.{Model, AllFit}
@@ -19,12 +19,13 @@ use prog.AdequacyRun.{start_mem}
 use prog.Routine.{Routine}
 use types.Logic.{Logic, sem}
 use ghost.Model as Closed
-use types.Kit.{‵, raw, ◌⊛◌, some, later, ◌$◌, ◌∵◌, !, qed, move, use1, split, join, pick, suffices, frame, await, updating, now as at_once, done}
+use types.Kit.{‵, raw, ◌⊛◌, some, later, ◌$◌, ◌∵◌, !, qed, move, use1, use2, split, join, pick, suffices, frame, await, updating, now as at_once, done}
 use types.Share.{arr_parts}
 use types.Tokens.{lft_new}
 use contract.Lifetimes.{Lfts}
 use contract.Monad.{fact}
-use contract.Running.{Running, real}
+use contract.Running.{Running}
+use contract.Closed.{model⁺, real⁺, real⁺_strict}
 use contract.BorrowModel.{logic₀}
 use contract.Adequate.{Satisfies, start_Satisfies, sat_weaken}
 use denote.Builtin.{u8, u32, SliceRefOf, SliceRefMutOf}
@@ -47,7 +48,8 @@ use Rattle.heads.proofs.options.Options.TheLaws as O'
 use Rattle.checks.specs.Creation.{Setup}
 use Rattle.capi.specs.Creation.{Created}
 use Rattle.capi.proofs.creation.wz_create.Met as create
-use Rattle.possible.proofs.RunLaws.{has_result, with_emp, lent_mut, taken_back, good_left}
+use Rattle.possible.proofs.World.{running, wz_create_wired}
+use Rattle.possible.proofs.RunLaws.{Strict, has_result, with_emp, lent_mut, taken_back, good_left}
 use Rattle.possible.proofs.BlockRuns.{held, lent_numbers}
 
 abbrev others : List (Slot 4)
@@ -103,23 +105,23 @@ pub record InRange (s : Setup) : Type 0 where
 
 module _ {M : Type 1} {𝓤 : Ura M} (𝓛 : Logic 𝓤) (𝓜 : Model 𝓤 𝓛.H) (xs : List ℕ) (room : Room u8 (length xs)) (s : Setup) (f : InRange s)
     (b₁ b₂ b₃ b₄ : ℕ) where
-  -- the lifetime and the name of the memory; the lifetime of names and ends, and their names; and so for the settings and the groups
+  -- the lifetime and the name of the memory; the lifetime of names and ends, of the settings, and of the groups
   open 𝓛 use {H, A}
 
   abbrev X : Type 0
-  X = (ℕ × GName) × ((ℕ × GName × GName) × ((ℕ × GName) × (ℕ × GName)))
+  X = (ℕ × GName) × (ℕ × (ℕ × ℕ))
 
   abbrev κs : X → Lfts 4
-  κs x = (x.0.0 ∷ [], (x.1.0.0 ∷ [], (x.1.1.0.0 ∷ [], (x.1.1.1.0 ∷ [], tt))))
+  κs x = (x.0.0 ∷ [], (x.1.0 ∷ [], (x.1.1.0 ∷ [], (x.1.1.1 ∷ [], tt))))
 
   abbrev args : (x : X) → Args S (κs x)
   args x = (
     record { ref_ptr = (0, 0); ghost_name = x.0.1; now = xs },
     (
-      record { ref_ptr = (b₁, 0); ghost_name = x.1.0.1; now = s.names },
+      record { ref_ptr = (b₁, 0); now = s.names },
       (
-        record { ref_ptr = (b₂, 0); ghost_name = x.1.0.2; now = s.ends },
-        (s.options, (record { ref_ptr = (b₃, 0); ghost_name = x.1.1.0.1; now = s.settings }, (record { ref_ptr = (b₄, 0); ghost_name = x.1.1.1.1; now = s.groups }, tt))),
+        record { ref_ptr = (b₂, 0); now = s.ends },
+        (s.options, (record { ref_ptr = (b₃, 0); now = s.settings }, (record { ref_ptr = (b₄, 0); now = s.groups }, tt))),
       ),
     ),
   )
@@ -145,10 +147,10 @@ module _ {M : Type 1} {𝓤 : Ura M} (𝓛 : Logic 𝓤) (𝓜 : Model 𝓤 𝓛
 
   abbrev Lists : X → SProp 𝓤
   Lists x =
-      sep 𝓤 (A.lent (x.1.0.0 ∷ []) ((arr_parts (shares u8) (length s.names)).part full_share s.names b₁ 0))
-      (sep 𝓤 (A.lent (x.1.0.0 ∷ []) ((arr_parts (shares u32) (length s.ends)).part full_share s.ends b₂ 0))
-      (sep 𝓤 (A.lent (x.1.1.0.0 ∷ []) ((arr_parts (shares u8) (length s.settings)).part full_share s.settings b₃ 0))
-      (A.lent (x.1.1.1.0 ∷ []) ((arr_parts (shares u8) (length s.groups)).part full_share s.groups b₄ 0))))
+      sep 𝓤 (A.lent (x.1.0 ∷ []) ((arr_parts (shares u8) (length s.names)).part full_share s.names b₁ 0))
+      (sep 𝓤 (A.lent (x.1.0 ∷ []) ((arr_parts (shares u32) (length s.ends)).part full_share s.ends b₂ 0))
+      (sep 𝓤 (A.lent (x.1.1.0 ∷ []) ((arr_parts (shares u8) (length s.settings)).part full_share s.settings b₃ 0))
+      (A.lent (x.1.1.1 ∷ []) ((arr_parts (shares u8) (length s.groups)).part full_share s.groups b₄ 0))))
 
   abbrev Aside : X → SProp 𝓤
   Aside x = sep 𝓤 (Loan x) (Lists x)
@@ -172,30 +174,30 @@ module _ {M : Type 1} {𝓤 : Ura M} (𝓛 : Logic 𝓤) (𝓜 : Model 𝓤 𝓛
       ∷ raw (run 𝓤 H full_share w8 0 0 xs) ∷ []) ∵ updating ! $
       lft_new ! tt (λ α. lft_new ! tt (λ β. lft_new ! tt (λ γ. lft_new ! tt (λ θ. move ! (8 ∷ []) $
       use1 𝓛 (later (some (λ (δ : GName). ‵ ((MutSlice (named 0) (α ∷ []) u8).own_val (record { ref_ptr = (0, 0); ghost_name = δ; now = xs }) (slice_val (0, 0) (length xs) ∷ [])) ⊛ ‵ (flent (α ∷ []) (Held u8 (length xs) 0 0 δ)))))
-      (lent_mut 𝓛 𝓜 0 0 α 0 xs room) $ await ! tt $ pick ! (λ δ. split ! $ move ! (6 ∷ []) $
-      use1 𝓛 (later (some (λ (ε : GName). ‵ ((ShrSlice (named 1) (β ∷ []) u8).own_val (record { ref_ptr = (b₁, 0); ghost_name = ε; now = s.names }) (slice_val (b₁, 0) (length s.names) ∷ []))
-      ⊛ ‵ (flent (β ∷ []) ((arr_parts (shares u8) (length s.names)).part full_share s.names b₁ 0)))))
-      (lent_numbers 𝓛 w8 b₁ 1 β 0 s.names f.names_room) $ await ! tt $ pick ! (λ ε. split ! $ move ! (8 ∷ []) $
-      use1 𝓛 (later (some (λ (ζ : GName). ‵ ((ShrSlice (named 1) (β ∷ []) u32).own_val (record { ref_ptr = (b₂, 0); ghost_name = ζ; now = s.ends }) (slice_val (b₂, 0) (length s.ends) ∷ []))
-      ⊛ ‵ (flent (β ∷ []) ((arr_parts (shares u32) (length s.ends)).part full_share s.ends b₂ 0)))))
-      (lent_numbers 𝓛 w32 b₂ 1 β 0 s.ends f.ends_room) $ await ! tt $ pick ! (λ ζ. split ! $ move ! (10 ∷ []) $
-      use1 𝓛 (later (some (λ (η : GName). ‵ ((ShrSlice (named 2) (γ ∷ []) u8).own_val (record { ref_ptr = (b₃, 0); ghost_name = η; now = s.settings }) (slice_val (b₃, 0) (length s.settings) ∷ []))
-      ⊛ ‵ (flent (γ ∷ []) ((arr_parts (shares u8) (length s.settings)).part full_share s.settings b₃ 0)))))
-      (lent_numbers 𝓛 w8 b₃ 2 γ 0 s.settings f.settings_room) $ await ! tt $ pick ! (λ η. split ! $ move ! (12 ∷ []) $
-      use1 𝓛 (later (some (λ (ι : GName). ‵ ((ShrSlice (named 3) (θ ∷ []) u8).own_val (record { ref_ptr = (b₄, 0); ghost_name = ι; now = s.groups }) (slice_val (b₄, 0) (length s.groups) ∷ []))
-      ⊛ ‵ (flent (θ ∷ []) ((arr_parts (shares u8) (length s.groups)).part full_share s.groups b₄ 0)))))
-      (lent_numbers 𝓛 w8 b₄ 3 θ 0 s.groups f.groups-room) $ await ! tt $ pick ! (λ ι. split ! $ at_once ! $
-      suffices ! (sep 𝓤 (Aside ((α, δ), ((β, ε, ζ), ((γ, η), (θ, ι))))) (Entry ((α, δ), ((β, ε, ζ), ((γ, η), (θ, ι))))))
-      (via 𝓤 (sep 𝓤 (Aside ((α, δ), ((β, ε, ζ), ((γ, η), (θ, ι))))) (Asked ((α, δ), ((β, ε, ζ), ((γ, η), (θ, ι))))))
-      (mono_r 𝓤 (Aside ((α, δ), ((β, ε, ζ), ((γ, η), (θ, ι))))) (with_emp 𝓛 𝓜 (Entry ((α, δ), ((β, ε, ζ), ((γ, η), (θ, ι)))))))
-      (ex_i 𝓤 (λ (x : X). sep 𝓤 (Aside x) (Asked x)) ((α, δ), ((β, ε, ζ), ((γ, η), (θ, ι)))))) $
+      (lent_mut 𝓛 𝓜 0 0 α 0 xs room) $ await ! tt $ pick ! (λ δ. split ! $ move ! (6 ∷ 4 ∷ []) $
+      use2 𝓛 (later ((‵ ((ShrSlice (named 1) (β ∷ []) u8).own_val (record { ref_ptr = (b₁, 0); now = s.names }) (slice_val (b₁, 0) (length s.names) ∷ []))
+      ⊛ ‵ (flent (β ∷ []) ((arr_parts (shares u8) (length s.names)).part full_share s.names b₁ 0))) ⊛ ‵ (flft (β ∷ []) full_share)))
+      (lent_numbers 𝓛 w8 b₁ 1 β 0 s.names f.names_room) $ await ! tt $ split ! $ split ! $ move ! (0 ∷ 1 ∷ 3 ∷ 4 ∷ 5 ∷ 6 ∷ 2 ∷ []) $ move ! (8 ∷ 6 ∷ []) $
+      use2 𝓛 (later ((‵ ((ShrSlice (named 1) (β ∷ []) u32).own_val (record { ref_ptr = (b₂, 0); now = s.ends }) (slice_val (b₂, 0) (length s.ends) ∷ []))
+      ⊛ ‵ (flent (β ∷ []) ((arr_parts (shares u32) (length s.ends)).part full_share s.ends b₂ 0))) ⊛ ‵ (flft (β ∷ []) full_share)))
+      (lent_numbers 𝓛 w32 b₂ 1 β 0 s.ends f.ends_room) $ await ! tt $ split ! $ split ! $ move ! (0 ∷ 1 ∷ 3 ∷ 4 ∷ 5 ∷ 6 ∷ 7 ∷ 8 ∷ 2 ∷ []) $ move ! (10 ∷ 7 ∷ []) $
+      use2 𝓛 (later ((‵ ((ShrSlice (named 2) (γ ∷ []) u8).own_val (record { ref_ptr = (b₃, 0); now = s.settings }) (slice_val (b₃, 0) (length s.settings) ∷ []))
+      ⊛ ‵ (flent (γ ∷ []) ((arr_parts (shares u8) (length s.settings)).part full_share s.settings b₃ 0))) ⊛ ‵ (flft (γ ∷ []) full_share)))
+      (lent_numbers 𝓛 w8 b₃ 2 γ 0 s.settings f.settings_room) $ await ! tt $ split ! $ split ! $ move ! (0 ∷ 1 ∷ 3 ∷ 4 ∷ 5 ∷ 6 ∷ 7 ∷ 8 ∷ 9 ∷ 2 ∷ []) $ move ! (12 ∷ 8 ∷ []) $
+      use2 𝓛 (later ((‵ ((ShrSlice (named 3) (θ ∷ []) u8).own_val (record { ref_ptr = (b₄, 0); now = s.groups }) (slice_val (b₄, 0) (length s.groups) ∷ []))
+      ⊛ ‵ (flent (θ ∷ []) ((arr_parts (shares u8) (length s.groups)).part full_share s.groups b₄ 0))) ⊛ ‵ (flft (θ ∷ []) full_share)))
+      (lent_numbers 𝓛 w8 b₄ 3 θ 0 s.groups f.groups-room) $ await ! tt $ split ! $ split ! $ move ! (0 ∷ 1 ∷ 3 ∷ 4 ∷ 5 ∷ 6 ∷ 7 ∷ 8 ∷ 9 ∷ 10 ∷ 2 ∷ []) $ at_once ! $
+      suffices ! (sep 𝓤 (Aside ((α, δ), (β, (γ, θ)))) (Entry ((α, δ), (β, (γ, θ)))))
+      (via 𝓤 (sep 𝓤 (Aside ((α, δ), (β, (γ, θ)))) (Asked ((α, δ), (β, (γ, θ)))))
+      (mono_r 𝓤 (Aside ((α, δ), (β, (γ, θ)))) (with_emp 𝓛 𝓜 (Entry ((α, δ), (β, (γ, θ))))))
+      (ex_i 𝓤 (λ (x : X). sep 𝓤 (Aside x) (Asked x)) ((α, δ), (β, (γ, θ))))) $
       -- [groups; its loan; settings; its loan; ends; its loan; names; its loan; memory; its loan; θ; γ; β; α]
       move ! (3 ∷ 1 ∷ 5 ∷ 7 ∷ 9 ∷ 13 ∷ 12 ∷ 11 ∷ 10 ∷ 8 ∷ 6 ∷ 4 ∷ 2 ∷ 0 ∷ []) $ join ! $ move ! (1 ∷ 0 ∷ []) $ join ! $ move ! (1 ∷ 0 ∷ []) $ join ! $ move ! (1 ∷ 0 ∷ []) $ join ! $ frame ! $
       -- [α; β; γ; θ; memory; names; ends; settings; groups]
       nothing ! $ move ! (4 ∷ 0 ∷ []) $ join ! $ move ! (3 ∷ 0 ∷ []) $ join ! $ move ! (2 ∷ 0 ∷ []) $ join ! $ move ! (1 ∷ 0 ∷ []) $ join ! $ frame ! $
       frame ! $ frame ! $ frame ! $ pure_i ! ((O.the_row).own_val s.options (options_vals s.options)) (Struct-Pure (shape O.the_type) O'.the_plain ((O.the_type).to s.options) (options_vals s.options))
       (LL.owes O.the_type O'.the_laws s.options ((refl, f.cycle_fits), ((refl, f.period_fits), ((refl, f.grace_fits), tt)))) $ frame ! $
-      frame ! $ nothing ! $ move ! (1 ∷ 0 ∷ []) $ done !)))))))))
+      frame ! $ nothing ! $ move ! (1 ∷ 0 ∷ []) $ done !)))))
 
   abbrev L : Type 0
   L = List ℕ × (Unit {0} × (Unit {0} × (Unit {0} × (Unit {0} × (Unit {0} × Unit {0})))))
@@ -205,14 +207,14 @@ module _ {M : Type 1} {𝓤 : Ura M} (𝓛 : Logic 𝓤) (𝓜 : Model 𝓤 𝓛
       (H.⇛ (ex 𝓤 (λ (y : ℕ × List ℕ). sep 𝓤 (run 𝓤 H full_share w8 0 0 y.1) (fact 𝓤 (Says xs s y.0 y.1)))))
   takes x v =
       taken_back 𝓛 𝓜 0 0 xs ℕ (List ℕ) L (λ l. l.0) (λ z. z) (λ r. sem 𝓛 (u32.own_val r (v ∷ [])))
-      (sep 𝓤 (A.lft (x.1.0.0 ∷ []) full_share) (sep 𝓤 (A.lft (x.1.1.0.0 ∷ []) full_share) (sep 𝓤 (A.lft (x.1.1.1.0 ∷ []) full_share) (emp 𝓤)))) (Lists x)
+      (sep 𝓤 (A.lft (x.1.0 ∷ []) full_share) (sep 𝓤 (A.lft (x.1.1.0 ∷ []) full_share) (sep 𝓤 (A.lft (x.1.1.1 ∷ []) full_share) (emp 𝓤)))) (Lists x)
       (λ l. lasts_of (κs x) others ks.1 (args x).1 l.1) (λ r z. Says xs s r z) x.0.0 x.0.1
 
   -- so there is a result, in every model
-  result : (𝓡 : Running 𝓤 H 𝓜) (ρ : Routine) → Meets 𝓛 S (𝓡.run ρ) (spec 𝓛) → (σ : Memory) → Satisfies 𝓤 H 𝓜 σ (sep 𝓤 Start (emp 𝓤))
+  result : (𝓡 : Running 𝓤 H 𝓜) → Strict 𝓛 𝓜 𝓡 → (ρ : Routine) → Meets 𝓛 S (𝓡.run ρ) (spec 𝓛) → (σ : Memory) → Satisfies 𝓤 H 𝓜 σ (sep 𝓤 Start (emp 𝓤))
       → ∥ ((y : ℕ × List ℕ) × (Says xs s y.0 y.1 × AllFit w8 y.1)) ∥₁
-  result 𝓡 ρ met σ h =
-      has_result 𝓛 𝓜 𝓡 ρ (triple_of 𝓛 S (spec 𝓛)) met X bound Aside Start lends (ℕ × List ℕ)
+  result 𝓡 strict ρ met σ h =
+      has_result 𝓛 𝓜 𝓡 strict ρ (triple_of 𝓛 S (spec 𝓛)) met X bound Aside Start lends (ℕ × List ℕ)
       (λ y. sep 𝓤 (run 𝓤 H full_share w8 0 0 y.1) (fact 𝓤 (Says xs s y.0 y.1))) takes
       (λ y. Says xs s y.0 y.1 × AllFit w8 y.1) (λ y. good_left 𝓛 𝓜 0 0 y.1 (Says xs s y.0 y.1)) σ (emp 𝓤) h
 
@@ -236,6 +238,6 @@ module _ {M : Type 1} {𝓤 : Ura M} (𝓛 : Logic 𝓤) (𝓜 : Model 𝓤 𝓛
 -- at the closed model
 pub create_has : (xs : List ℕ) → AllFit w8 xs → Room u8 (length xs) → (s : Setup) → InRange s → ∥ ((r : ℕ) × (new : List ℕ) × Says xs s r new × AllFit w8 new) ∥₁
 create_has xs f g s k =
-    ∥∥₁_elim (placed logic₀ Closed.model xs f g s k) ∥∥₁_prop (λ p.
-    ∥∥₁_map (result logic₀ Closed.model xs g s k p.1.0 p.1.1 p.1.2 p.1.3 (real Closed.𝓤 Closed.H Closed.model) _
-    (create.met Closed.𝓤 logic₀ Closed.model (real Closed.𝓤 Closed.H Closed.model)) p.0 p.2) (λ y. (y.0.0, y.0.1, y.1.0, y.1.1)))
+    ∥∥₁_elim (placed logic₀ model⁺ xs f g s k) ∥∥₁_prop (λ p.
+    ∥∥₁_map (result logic₀ model⁺ xs g s k p.1.0 p.1.1 p.1.2 p.1.3 real⁺ real⁺_strict _
+    (create.met Closed.𝓤 logic₀ model⁺ running wz_create_wired) p.0 p.2) (λ y. (y.0.0, y.0.1, y.1.0, y.1.1)))

@@ -17,7 +17,7 @@ use Rattle.turns.specs.EntryContracts.{CreateMet}
 use Rattle.turns.specs.Demand.{Claim}
 use Rattle.possible.specs.Typed.{EveryList}
 use Rattle.possible.specs.Creations.{TypedSetup, EveryCreation, EveryEngine}
-use Rattle.possible.proofs.PossibleLaws.{ref, every_list}
+use Rattle.possible.proofs.PossibleLaws.{ref, mut_ref, every_list}
 use Rattle.possible.proofs.CreateRuns.{InRange, create_has}
 use Rattle.turns.proofs.CallLaws.{names_some, names_few}
 use Rattle.turns.proofs.ClaimLaws.{demand_3}
@@ -63,8 +63,8 @@ every_creation s t mem l =
         ends = ref s.ends;
         settings = ref s.settings;
         groups = ref s.groups;
-        mem = ref mem;
-        mem_exit = ref y.1;
+        mem = mut_ref mem;
+        mem_exit = mut_ref y.1;
         names_is = refl;
         ends_is = refl;
         settings_is = refl;

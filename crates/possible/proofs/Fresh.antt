@@ -10,7 +10,7 @@ use Rattle.checks.specs.Creation.{Setup}
 use Rattle.capi.specs.Creation.{fresh_worker, creation_answer}
 use Rattle.capi.specs.Memory.{memory_size, worker_in}
 use Rattle.turns.specs.EntryContracts.{CreateMet}
-use Rattle.possible.proofs.PossibleLaws.{ref}
+use Rattle.possible.proofs.PossibleLaws.{ref, mut_ref}
 use Rattle.lists.specs.Keep as lists_Keep
 use Rattle.names.specs.Order as names_Order
 use Rattle.names.specs.Bits as names_Bits
@@ -80,8 +80,8 @@ created =
       ends = ref setup.ends;
       settings = ref setup.settings;
       groups = ref setup.groups;
-      mem = ref lent;
-      mem_exit = ref fresh;
+      mem = mut_ref lent;
+      mem_exit = mut_ref fresh;
       names_is = refl;
       ends_is = refl;
       settings_is = refl;

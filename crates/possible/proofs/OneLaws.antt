@@ -4,7 +4,7 @@ use mathlib.Core.Logic.{∥∥₁_map}
 use Prim.Native.Nat.{ℕ}
 use mathlib.Core.List.{List, [], ◌∷◌}
 use seplogic.Ra.Ura.{Ura}
-use seplogic.Ra.TreeShare.{full_share}
+use base.Fraction.{full_share}
 use lib.ListN.{length}
 use mir.Syntax.{named, w8}
 use mir.Val.{Val}
@@ -20,7 +20,8 @@ use ghost.Model as Closed
 use types.Kit.{‵, raw, ◌⊛◌, some, later, ◌$◌, ◌∵◌, !, qed, move, use1, split, join, pick, suffices, frame, await, updating, now as at_once, done}
 use types.Tokens.{lft_new}
 use contract.Monad.{fact}
-use contract.Running.{Running, real}
+use contract.Running.{Running}
+use contract.Closed.{model⁺, real⁺, real⁺_strict}
 use contract.BorrowModel.{logic₀}
 use contract.Adequate.{Satisfies, start_Satisfies}
 use contract.Lifetimes.{Lfts}
@@ -35,7 +36,7 @@ use denote.Steps.{nothing}
 use denote.Triple.Entry.{on_entry, Args, Vals}
 use denote.Triple.End.{Kepts, Fins, lasts_of}
 use denote.Triple.Spec.{Spec, triple_of, Meets, exits}
-use Rattle.possible.proofs.RunLaws.{has_result, with_emp, lent_mut, taken_back, good_left}
+use Rattle.possible.proofs.RunLaws.{Strict, has_result, with_emp, lent_mut, taken_back, good_left}
 
 -- `rest` is the other parameters, and Q what the contract says: of them, of the slice before, of the result, and of the slice after
 module _ (rest : List (Slot 1)) (ks : Kepts rest) (Q : (κs : Lfts 1) → Denots (types_at rest κs) → List ℕ → ℕ → List ℕ → Type 0) where
@@ -103,17 +104,17 @@ module _ (rest : List (Slot 1)) (ks : Kepts rest) (Q : (κs : Lfts 1) → Denots
           (λ l. lasts_of (x.0 ∷ [], tt) rest ks (others (x.0 ∷ [], tt)) l.1) (λ r z. Q (x.0 ∷ [], tt) (others (x.0 ∷ [], tt)) xs r z) x.0 x.1)
 
       -- so there is a result, in every model
-      result : (𝓡 : Running 𝓤 H 𝓜) (ρ : Routine) → Meets 𝓛 S (𝓡.run ρ) (spec 𝓛) → (σ : Memory) (F : SProp 𝓤) → Satisfies 𝓤 H 𝓜 σ (sep 𝓤 (run 𝓤 H full_share w8 0 0 xs) F)
+      result : (𝓡 : Running 𝓤 H 𝓜) → Strict 𝓛 𝓜 𝓡 → (ρ : Routine) → Meets 𝓛 S (𝓡.run ρ) (spec 𝓛) → (σ : Memory) (F : SProp 𝓤) → Satisfies 𝓤 H 𝓜 σ (sep 𝓤 (run 𝓤 H full_share w8 0 0 xs) F)
           → ∥ ((y : ℕ × List ℕ) × (Says y.0 y.1 × AllFit w8 y.1)) ∥₁
-      result 𝓡 ρ met σ F s =
-          has_result 𝓛 𝓜 𝓡 ρ (triple_of 𝓛 S (spec 𝓛)) met X bound Aside (run 𝓤 H full_share w8 0 0 xs) lends (ℕ × List ℕ)
+      result 𝓡 strict ρ met σ F s =
+          has_result 𝓛 𝓜 𝓡 strict ρ (triple_of 𝓛 S (spec 𝓛)) met X bound Aside (run 𝓤 H full_share w8 0 0 xs) lends (ℕ × List ℕ)
           (λ y. sep 𝓤 (run 𝓤 H full_share w8 0 0 y.1) (fact 𝓤 (Says y.0 y.1))) takes
           (λ y. Says y.0 y.1 × AllFit w8 y.1) (λ y. good_left 𝓛 𝓜 0 0 y.1 (Says y.0 y.1)) σ F s
 
     -- at the closed model, from a memory that holds the bytes
-    pub one_has : AllFit w8 xs → (ρ : Routine) → Meets logic₀ S ((real Closed.𝓤 Closed.H Closed.model).run ρ) (spec logic₀)
+    pub one_has : AllFit w8 xs → (ρ : Routine) → Meets logic₀ S (real⁺.run ρ) (spec logic₀)
         → ∥ ((r : ℕ) × (new : List ℕ) × Says r new × AllFit w8 new) ∥₁
     one_has f ρ met =
-        ∥∥₁_map (result logic₀ Closed.model (real Closed.𝓤 Closed.H Closed.model) ρ met
-        (start_mem xs []) (run Closed.𝓤 Closed.H full_share w8 1 0 []) (start_Satisfies Closed.𝓤 Closed.H Closed.model xs [] f tt))
+        ∥∥₁_map (result logic₀ model⁺ real⁺ real⁺_strict ρ met
+        (start_mem xs []) (run Closed.𝓤 Closed.H full_share w8 1 0 []) (start_Satisfies Closed.𝓤 Closed.H model⁺ xs [] f tt))
         (λ y. (y.0.0, y.0.1, y.1.0, y.1.1))

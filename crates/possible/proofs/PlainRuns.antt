@@ -9,7 +9,7 @@ use mir.Syntax.{w8, w32, w64}
 use mir.Val.{vint, vfloat}
 use prog.Model.{AllFit}
 use ghost.Model as Closed
-use contract.Running.{real}
+use contract.Closed.{model⁺}
 use contract.BorrowModel.{logic₀}
 use denote.Builtin.{u8, u32, u64, f64}
 use denote.Exit as Exit
@@ -22,6 +22,7 @@ use Rattle.capi.specs.Calls.{tiered, wrote, halted}
 use Rattle.capi.proofs.calls.wz_set_tier.Met as tier
 use Rattle.capi.proofs.calls.wz_write.Met as write
 use Rattle.capi.proofs.calls.wz_stop.Met as stop
+use Rattle.possible.proofs.World.{running, wz_set_tier_wired, wz_write_wired, wz_stop_wired}
 use Rattle.possible.proofs.OneLaws.{one_has}
 
 module _ (xs : List ℕ) (f : AllFit w8 xs) (room : Room u8 (length xs)) where
@@ -38,7 +39,7 @@ module _ (xs : List ℕ) (f : AllFit w8 xs) (room : Room u8 (length xs)) where
       (λ κs. (clock, (tag, (to, tt)))) (λ κs. (vfloat binary64 clock ∷ [], (vint w32 tag ∷ [], (vint w32 to ∷ [], tt))))
       (λ κs. ((tt, tt), ((tt, tt), ((tt, tt), tt)))) (λ κs. ((refl, c), ((refl, t), ((refl, k), tt)))) xs room
       (λ r new. Called xs new r (tier_check (worker_in xs) clock tag to) (tiered (worker_in xs) clock tag to)) (λ κs r new. refl)
-      f _ (tier.met Closed.𝓤 logic₀ Closed.model (real Closed.𝓤 Closed.H Closed.model))
+      f _ (tier.met Closed.𝓤 logic₀ model⁺ running wz_set_tier_wired)
 
   -- a write
   pub write_has : (tag kind word : ℕ) → tag < 2 ^ 32 → kind < 2 ^ 64 → word < 2 ^ 64
@@ -49,10 +50,10 @@ module _ (xs : List ℕ) (f : AllFit w8 xs) (room : Room u8 (length xs)) where
       (λ κs. (tag, (kind, (word, tt)))) (λ κs. (vint w32 tag ∷ [], (vint w64 kind ∷ [], (vint w64 word ∷ [], tt))))
       (λ κs. ((tt, tt), ((tt, tt), ((tt, tt), tt)))) (λ κs. ((refl, t), ((refl, k), ((refl, w), tt)))) xs room
       (λ r new. Called xs new r (write_check (worker_in xs) tag (value_from kind word)) (wrote (worker_in xs) tag (value_from kind word))) (λ κs r new. refl)
-      f _ (write.met Closed.𝓤 logic₀ Closed.model (real Closed.𝓤 Closed.H Closed.model))
+      f _ (write.met Closed.𝓤 logic₀ model⁺ running wz_write_wired)
 
   -- a stop
   pub stop_has : Has (λ r new. Called xs new r 0 (halted (worker_in xs)))
   stop_has =
       one_has [] tt (λ κs a old r new. Called old new r 0 (halted (worker_in old))) (λ κs. tt) (λ κs. tt) (λ κs. tt) (λ κs. tt) xs room
-      (λ r new. Called xs new r 0 (halted (worker_in xs))) (λ κs r new. refl) f _ (stop.met Closed.𝓤 logic₀ Closed.model (real Closed.𝓤 Closed.H Closed.model))
+      (λ r new. Called xs new r 0 (halted (worker_in xs))) (λ κs r new. refl) f _ (stop.met Closed.𝓤 logic₀ model⁺ running wz_stop_wired)

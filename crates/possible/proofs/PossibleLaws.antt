@@ -9,7 +9,8 @@ use lib.ListN.{length}
 use mir.Syntax.{w8}
 use prog.Model.{AllFit}
 use denote.Builtin.{u8}
-use denote.Ref.{Bor}
+use denote.Bor.{Bor}
+use denote.MutBor.{MutBor}
 use denote.Slice.{Room}
 use Rattle.histories.specs.Events.{Each}
 use Rattle.histories.specs.Histories.{Happened}
@@ -28,9 +29,12 @@ use Rattle.possible.proofs.StepRuns.{step_has}
 has_room : (n : ℕ) → n < 2 ^ 63 → Room u8 n
 has_room n h = (omega arith, subst (λ (k : ℕ). k < 2 ^ 63) (sym (mul-one n)) h)
 
--- any reference to these bytes
+-- any reference to these bytes, to read and to write
 abbrev pub ref : List ℕ → Bor (List ℕ)
 ref bs = record { ref_ptr = (0, 0); now = bs }
+
+abbrev pub mut_ref : List ℕ → MutBor (List ℕ)
+mut_ref bs = record { ref_ptr = (0, 0); ghost_name = 0; now = bs }
 
 -- A call on this memory has an answer, and leaves a memory, that its contract allows.
 abbrev Has : Call → List ℕ → Type 0
@@ -53,11 +57,11 @@ module _ (old : List ℕ) (l : Lendable old) where
   unfolding Typed Learnt
   call_has (tier clock tag to) t =
       numbered (tier clock tag to) old _
-      (λ r new p. ((r, refl, record { lifetimes = (0 ∷ [], tt); mem = ref old; mem_exit = ref new; mem_is = refl; mem_left = refl; met = p }), p.long)) l
+      (λ r new p. ((r, refl, record { lifetimes = (0 ∷ [], tt); mem = mut_ref old; mem_exit = mut_ref new; mem_is = refl; mem_left = refl; met = p }), p.long)) l
       (tier_has old l.0 room clock tag to t.0 t.1 t.2)
   call_has (load clock list) t =
       numbered (load clock list) old _
-      (λ r new p. ((r, refl, record { lifetimes = (0 ∷ [], (1 ∷ [], tt)); given = ref list; mem = ref old; mem_exit = ref new; given_is = refl; mem_is = refl; mem_left = refl; met = p }), p.long)) l
+      (λ r new p. ((r, refl, record { lifetimes = (0 ∷ [], (1 ∷ [], tt)); given = ref list; mem = mut_ref old; mem_exit = mut_ref new; given_is = refl; mem_is = refl; mem_left = refl; met = p }), p.long)) l
       (load_has old l.0 room clock t.0 list t.1.0 (has_room (length list) t.1.1))
   call_has (steps clock wall kind number message list out) t =
       ∥∥₁_map (step_has old l.0 room (record { clock = clock; wall = wall; kind = kind; number = number; message = message })
@@ -72,10 +76,10 @@ module _ (old : List ℕ) (l : Lendable old) where
           record {
             lifetimes = (0 ∷ [], (1 ∷ [], (2 ∷ [], tt)));
             given = ref list;
-            mem = ref old;
-            mem_exit = ref y.1;
-            lent = ref out;
-            lent_exit = ref y.2;
+            mem = mut_ref old;
+            mem_exit = mut_ref y.1;
+            lent = mut_ref out;
+            lent_exit = mut_ref y.2;
             given_is = refl;
             mem_is = refl;
             mem_left = refl;
@@ -88,10 +92,10 @@ module _ (old : List ℕ) (l : Lendable old) where
       ))
   call_has (write tag kind word) t =
       numbered (write tag kind word) old _
-      (λ r new p. ((r, refl, record { lifetimes = (0 ∷ [], tt); mem = ref old; mem_exit = ref new; mem_is = refl; mem_left = refl; met = p }), p.long)) l
+      (λ r new p. ((r, refl, record { lifetimes = (0 ∷ [], tt); mem = mut_ref old; mem_exit = mut_ref new; mem_is = refl; mem_left = refl; met = p }), p.long)) l
       (write_has old l.0 room tag kind word t.0 t.1 t.2)
   call_has stop t =
-      numbered stop old _ (λ r new p. ((r, refl, record { lifetimes = (0 ∷ [], tt); mem = ref old; mem_exit = ref new; mem_is = refl; mem_left = refl; met = p }), p.long)) l
+      numbered stop old _ (λ r new p. ((r, refl, record { lifetimes = (0 ∷ [], tt); mem = mut_ref old; mem_exit = mut_ref new; mem_is = refl; mem_left = refl; met = p }), p.long)) l
       (stop_has old l.0 room)
   call_has (look look_state) t = ∣ (state_is (state_look old), old, (state_look old, refl, refl, record { lifetimes = (0 ∷ [], tt); mem = ref old; mem_is = refl; met = refl }), l) ∣₁
   call_has (look look_stats) t = ∣ (stats_are (stats_look old), old, (stats_look old, refl, refl, record { lifetimes = (0 ∷ [], tt); mem = ref old; mem_is = refl; met = refl }), l) ∣₁
@@ -99,15 +103,15 @@ module _ (old : List ℕ) (l : Lendable old) where
   call_has (look (look_groups out)) t =
       let r = listed (group_check old out) (group_count (worker_in old) out) in
       let out' = left_in (group_check old out) out (group_cells (worker_in old)) in
-      ∣ (list_is r out', old, (r, out', refl, refl, record { lifetimes = (0 ∷ [], (1 ∷ [], tt)); mem = ref old; lent = ref out; lent_exit = ref out'; mem_is = refl; lent_is = refl; lent_left = refl; met = (refl, refl) }), l) ∣₁
+      ∣ (list_is r out', old, (r, out', refl, refl, record { lifetimes = (0 ∷ [], (1 ∷ [], tt)); mem = ref old; lent = mut_ref out; lent_exit = mut_ref out'; mem_is = refl; lent_is = refl; lent_left = refl; met = (refl, refl) }), l) ∣₁
   call_has (look (look_table out)) t =
       let r = listed (table_check old out) (table_count (worker_in old) out) in
       let out' = left_in (table_check old out) out (records (row_cells (worker_in old).board) (worker_in old).board.table.order) in
-      ∣ (list_is r out', old, (r, out', refl, refl, record { lifetimes = (0 ∷ [], (1 ∷ [], tt)); mem = ref old; lent = ref out; lent_exit = ref out'; mem_is = refl; lent_is = refl; lent_left = refl; met = (refl, refl) }), l) ∣₁
+      ∣ (list_is r out', old, (r, out', refl, refl, record { lifetimes = (0 ∷ [], (1 ∷ [], tt)); mem = ref old; lent = mut_ref out; lent_exit = mut_ref out'; mem_is = refl; lent_is = refl; lent_left = refl; met = (refl, refl) }), l) ∣₁
   call_has (look (look_panel out)) t =
       let r = listed (panel_code old out) (panel_count (worker_in old) out) in
       let out' = panel_left (panel_code old out) out (panel_bytes (worker_in old)) in
-      ∣ (list_is r out', old, (r, out', refl, refl, record { lifetimes = (0 ∷ [], (1 ∷ [], tt)); mem = ref old; lent = ref out; lent_exit = ref out'; mem_is = refl; lent_is = refl; lent_left = refl; met = (refl, refl) }), l) ∣₁
+      ∣ (list_is r out', old, (r, out', refl, refl, record { lifetimes = (0 ∷ [], (1 ∷ [], tt)); mem = ref old; lent = mut_ref out; lent_exit = mut_ref out'; mem_is = refl; lent_is = refl; lent_left = refl; met = (refl, refl) }), l) ∣₁
   call_has (look (look_tag tag)) t = ∣ (tag_is (tag_look old tag), old, (tag_look old tag, refl, refl, record { lifetimes = (0 ∷ [], tt); mem = ref old; mem_is = refl; met = refl }), l) ∣₁
 
 -- Every list of calls has a history.

@@ -1,2 +1,3 @@
 -- Laws of the queue of writes.
 pub mod QueueLaws
+pub mod Links

@@ -2,3 +2,4 @@
 pub mod ListedLaws
 pub mod ChangeLaws
 pub mod MarkLaws
+pub mod Links

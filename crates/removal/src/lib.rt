@@ -7,7 +7,6 @@ ghost use Rattle.tags.specs.Lists.{list_in};
 ghost use Rattle.removal.specs.Places.{Placed};
 
 use memory::{bytes, halves};
-use std::num::wrapping_add_u16;
 use tags::count;
 
 // How many places hold a tag, and the sum of these places modulo 65536: of one place the place.
@@ -29,7 +28,7 @@ fn places_of(s: &[u8], k: usize) -> Places
         let same = bytes::half(s, i + 1) == k;
         hits += same as u16;
         let here = if same { i as u16 } else { 0 };
-        sum = wrapping_add_u16(sum, here);
+        sum = sum.wrapping_add(here);
         i += 1;
     }
     Places {

@@ -1,2 +1,3 @@
 -- Laws of check 42.
 pub mod ResultLaws
+pub mod Links

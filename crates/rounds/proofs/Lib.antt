@@ -6,3 +6,4 @@ pub mod GracedLaws
 pub mod OnceLaws
 pub mod RoundLaws
 pub mod TickLaws
+pub mod Links

@@ -2,3 +2,4 @@
 pub mod RecordLaws
 pub mod SettingLaws
 pub mod GroupLaws
+pub mod Links

@@ -1,2 +1,3 @@
 -- Laws of what looks answer.
 pub mod LookLaws
+pub mod Links

@@ -2,3 +2,4 @@
 pub mod PlaceLaws
 pub mod SlotLaws
 pub mod SliceLaws
+pub mod Links

@@ -1,2 +1,3 @@
 -- Laws of rule 7: a table marked stale.
 pub mod StaleLaws
+pub mod Links

@@ -4,3 +4,4 @@ pub mod NumberLaws
 pub mod RateLaws
 pub mod StatLaws
 pub mod Examples
+pub mod Links

@@ -1,2 +1,3 @@
 -- Laws of what an answer comes to.
 pub mod AnswerLaws
+pub mod Links

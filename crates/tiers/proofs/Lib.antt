@@ -3,3 +3,4 @@
 pub mod Laws
 pub mod ListedLaws
 pub mod GracedLaws
+pub mod Links

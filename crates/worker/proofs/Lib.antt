@@ -1,2 +1,3 @@
 -- Laws of a step.
 pub mod StepLaws
+pub mod Links

@@ -2,3 +2,4 @@
 pub mod FailLaws
 pub mod ReadBackLaws
 pub mod OnceLaws
+pub mod Links

@@ -46,5 +46,5 @@ loop-i-preserved c =
     let small : l.i < 65536 = omega (arith, list_short a.s.now) in
     let read = x.ensures ∙ list_at a.s.now l.i h in (
       omega arith,
-      elim c.if-same.branch [ then-same w ↦ rw (c.wrapping_add_u16-sum.ensures.value, w.here-is) (placing_yes a.k xs l.i l.hits l.sum l.invariant.1 h small x.result read (eq-eqb _ _ w.if-same.true)) | else-same w ↦ rw (c.wrapping_add_u16-sum.ensures.value, w.here-is) (placing_no a.k xs l.i l.hits l.sum l.invariant.1 h small x.result read (ne_eqb _ _ w.if-same.false)) ],
+      elim c.if-same.branch [ then-same w ↦ rw (w.here-is) (placing_yes a.k xs l.i l.hits l.sum l.invariant.1 h small x.result read (eq-eqb _ _ w.if-same.true)) | else-same w ↦ rw (w.here-is) (placing_no a.k xs l.i l.hits l.sum l.invariant.1 h small x.result read (ne_eqb _ _ w.if-same.false)) ],
     )

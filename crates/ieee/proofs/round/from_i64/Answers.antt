@@ -5,4 +5,4 @@ use mir.ValLaws.{to_z-of_z}
 use Rattle.ieee.proofs.round.from_i64.Goals as goal
 
 pub returns : goal.returns
-returns c = c.nearest_i64_to_f64.ensures ∙ ap (of_int binary64) (to_z-of_z w64 c.args.n c.ranges.n)
+returns c = c.from_i64.ensures ∙ ap (of_int binary64) (to_z-of_z w64 c.args.n c.ranges.n)

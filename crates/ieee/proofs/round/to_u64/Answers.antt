@@ -4,9 +4,9 @@ use Rattle.ieee.proofs.Order.{yes, no}
 use Rattle.ieee.proofs.Cast.{at_top, at_zero}
 use Rattle.ieee.proofs.round.to_u64.Goals as goal
 
-pub truncating_f64_to_u64-requires : goal.truncating_f64_to_u64-requires
+pub whole_part-requires : goal.whole_part-requires
 unfolding of_bits neg
-truncating_f64_to_u64-requires c = record { lower_bound = yes c.if-x.true; upper_bound = yes c.if-x-2.true }
+whole_part-requires c = record { lower_bound = yes c.if-x.true; upper_bound = yes c.if-x-2.true }
 
 pub returns-else-x-2 : goal.returns-else-x-2
 unfolding of_bits neg

@@ -6,4 +6,4 @@ use Rattle.ieee.proofs.times.seconds.Goals as goal
 
 pub returns : goal.returns
 unfolding of_bits of_int
-returns c = ap (λ (x : Float). div binary64 x (float 1000)) c.nearest_u64_to_f64.ensures
+returns c = ap (λ (x : Float). div binary64 x (float 1000)) c.from_u64.ensures

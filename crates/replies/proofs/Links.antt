@@ -1,0 +1,80 @@
+-- For a link: the table of this crate's functions, what it asks of the crates below it, and that each function that another crate calls is found with its own code and all that it calls.
+-- `possible` puts the tables together and runs the entry points.
+use mathlib.Core.Bool.{true}
+use prog.Linked.{Tree, World, Holds, in_world}
+use prog.LinkedThreads.{HasT}
+use prog.Wired.{Code}
+use Rattle.replies.proofs.TheLink as link
+use Rattle.replies.proofs.TheLinks.replies-losing-backing_off
+use Rattle.replies.proofs.TheLinks.replies-losing-disconnected
+use Rattle.replies.proofs.TheLinks.replies-losing-down
+use Rattle.replies.proofs.TheLinks.replies-losing-ended
+use Rattle.replies.proofs.TheLinks.replies-losing-failing
+use Rattle.replies.proofs.TheLinks.replies-losing-phased
+use Rattle.replies.proofs.TheLinks.replies-losing-staling
+use Rattle.replies.proofs.TheLinks.replies-losing-top
+use Rattle.replies.proofs.TheLinks.replies-reply-Reply-listed
+use Rattle.replies.proofs.TheLinks.replies-reply-Reply-refused
+use Rattle.replies.proofs.TheLinks.replies-reply-Reply-status
+use Rattle.replies.proofs.TheLinks.replies-reply-Reply-wait
+use Rattle.replies.proofs.TheLinks.replies-reply-Reply-was_lost
+use Rattle.replies.proofs.TheLinks.replies-reply-Reply-was_refused
+use Rattle.replies.proofs.TheLinks.replies-reply-Reply-went_through
+use Rattle.replies.proofs.TheLinks.replies-reply-Reply-write
+
+abbrev pub table : Tree
+table = link.table
+
+abbrev pub Below : World → Type 0
+Below W = link.Below W
+
+abbrev pub Linked : Code → Type 0
+Linked c = (W : World) → Holds W "replies" table → Below W → HasT (in_world W) true c
+
+pub losing_backing_off : Linked replies-losing-backing_off.code
+losing_backing_off = link.linked-replies::losing::backing_off
+
+pub losing_disconnected : Linked replies-losing-disconnected.code
+losing_disconnected = link.linked-replies::losing::disconnected
+
+pub losing_down : Linked replies-losing-down.code
+losing_down = link.linked-replies::losing::down
+
+pub losing_ended : Linked replies-losing-ended.code
+losing_ended = link.linked-replies::losing::ended
+
+pub losing_failing : Linked replies-losing-failing.code
+losing_failing = link.linked-replies::losing::failing
+
+pub losing_phased : Linked replies-losing-phased.code
+losing_phased = link.linked-replies::losing::phased
+
+pub losing_staling : Linked replies-losing-staling.code
+losing_staling = link.linked-replies::losing::staling
+
+pub losing_top : Linked replies-losing-top.code
+losing_top = link.linked-replies::losing::top
+
+pub reply_Reply_listed : Linked replies-reply-Reply-listed.code
+reply_Reply_listed = link.linked-replies::reply::Reply::listed
+
+pub reply_Reply_refused : Linked replies-reply-Reply-refused.code
+reply_Reply_refused = link.linked-replies::reply::Reply::refused
+
+pub reply_Reply_status : Linked replies-reply-Reply-status.code
+reply_Reply_status = link.linked-replies::reply::Reply::status
+
+pub reply_Reply_wait : Linked replies-reply-Reply-wait.code
+reply_Reply_wait = link.linked-replies::reply::Reply::wait
+
+pub reply_Reply_was_lost : Linked replies-reply-Reply-was_lost.code
+reply_Reply_was_lost = link.linked-replies::reply::Reply::was_lost
+
+pub reply_Reply_was_refused : Linked replies-reply-Reply-was_refused.code
+reply_Reply_was_refused = link.linked-replies::reply::Reply::was_refused
+
+pub reply_Reply_went_through : Linked replies-reply-Reply-went_through.code
+reply_Reply_went_through = link.linked-replies::reply::Reply::went_through
+
+pub reply_Reply_write : Linked replies-reply-Reply-write.code
+reply_Reply_write = link.linked-replies::reply::Reply::write

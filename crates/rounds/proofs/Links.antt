@@ -1,0 +1,20 @@
+-- For a link: the table of this crate's functions, what it asks of the crates below it, and that each function that another crate calls is found with its own code and all that it calls.
+-- `possible` puts the tables together and runs the entry points.
+use mathlib.Core.Bool.{true}
+use prog.Linked.{Tree, World, Holds, in_world}
+use prog.LinkedThreads.{HasT}
+use prog.Wired.{Code}
+use Rattle.rounds.proofs.TheLink as link
+use Rattle.rounds.proofs.TheLinks.rounds-round-cycle_tags
+
+abbrev pub table : Tree
+table = link.table
+
+abbrev pub Below : World → Type 0
+Below W = link.Below W
+
+abbrev pub Linked : Code → Type 0
+Linked c = (W : World) → Holds W "rounds" table → Below W → HasT (in_world W) true c
+
+pub round_cycle_tags : Linked rounds-round-cycle_tags.code
+round_cycle_tags = link.linked-rounds::round::cycle_tags

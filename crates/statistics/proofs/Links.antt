@@ -1,0 +1,24 @@
+-- For a link: the table of this crate's functions, what it asks of the crates below it, and that each function that another crate calls is found with its own code and all that it calls.
+-- `possible` puts the tables together and runs the entry points.
+use mathlib.Core.Bool.{true}
+use prog.Linked.{Tree, World, Holds, in_world}
+use prog.LinkedThreads.{HasT}
+use prog.Wired.{Code}
+use Rattle.statistics.proofs.TheLink as link
+use Rattle.statistics.proofs.TheLinks.statistics-counts-tier_count
+use Rattle.statistics.proofs.TheLinks.statistics-group_stats
+
+abbrev pub table : Tree
+table = link.table
+
+abbrev pub Below : World → Type 0
+Below W = link.Below W
+
+abbrev pub Linked : Code → Type 0
+Linked c = (W : World) → Holds W "statistics" table → Below W → HasT (in_world W) true c
+
+pub counts_tier_count : Linked statistics-counts-tier_count.code
+counts_tier_count = link.linked-statistics::counts::tier_count
+
+pub group_stats : Linked statistics-group_stats.code
+group_stats = link.linked-statistics::group_stats

@@ -1,0 +1,2 @@
+-- `Links`: the code, for a link.
+pub mod Links

@@ -1,0 +1,24 @@
+-- For a link: the table of this crate's functions, what it asks of the crates below it, and that each function that another crate calls is found with its own code and all that it calls.
+-- `possible` puts the tables together and runs the entry points.
+use mathlib.Core.Bool.{true}
+use prog.Linked.{Tree, World, Holds, in_world}
+use prog.LinkedThreads.{HasT}
+use prog.Wired.{Code}
+use Rattle.tiers.proofs.TheLink as link
+use Rattle.tiers.proofs.TheLinks.tiers-grace-set_tier
+use Rattle.tiers.proofs.TheLinks.tiers-set-set
+
+abbrev pub table : Tree
+table = link.table
+
+abbrev pub Below : World → Type 0
+Below W = link.Below W
+
+abbrev pub Linked : Code → Type 0
+Linked c = (W : World) → Holds W "tiers" table → Below W → HasT (in_world W) true c
+
+pub grace_set_tier : Linked tiers-grace-set_tier.code
+grace_set_tier = link.linked-tiers::grace::set_tier
+
+pub set_set : Linked tiers-set-set.code
+set_set = link.linked-tiers::set::set

@@ -1,0 +1,60 @@
+-- For a link: the table of this crate's functions, what it asks of the crates below it, and that each function that another crate calls is found with its own code and all that it calls.
+-- `possible` puts the tables together and runs the entry points.
+use mathlib.Core.Bool.{true}
+use prog.Linked.{Tree, World, Holds, in_world}
+use prog.LinkedThreads.{HasT}
+use prog.Wired.{Code}
+use Rattle.words.proofs.TheLink as link
+use Rattle.words.proofs.TheLinks.words-entry-entry_words
+use Rattle.words.proofs.TheLinks.words-entry-held_from
+use Rattle.words.proofs.TheLinks.words-entry-held_words
+use Rattle.words.proofs.TheLinks.words-error-error_from
+use Rattle.words.proofs.TheLinks.words-scalar-float_of_word
+use Rattle.words.proofs.TheLinks.words-scalar-int_of_word
+use Rattle.words.proofs.TheLinks.words-scalar-word_of_flag
+use Rattle.words.proofs.TheLinks.words-scalar-word_of_float
+use Rattle.words.proofs.TheLinks.words-scalar-word_of_int
+use Rattle.words.proofs.TheLinks.words-value-value_from
+use Rattle.words.proofs.TheLinks.words-value-value_words
+
+abbrev pub table : Tree
+table = link.table
+
+abbrev pub Below : World → Type 0
+Below W = link.Below W
+
+abbrev pub Linked : Code → Type 0
+Linked c = (W : World) → Holds W "words" table → Below W → HasT (in_world W) true c
+
+pub entry_entry_words : Linked words-entry-entry_words.code
+entry_entry_words = link.linked-words::entry::entry_words
+
+pub entry_held_from : Linked words-entry-held_from.code
+entry_held_from = link.linked-words::entry::held_from
+
+pub entry_held_words : Linked words-entry-held_words.code
+entry_held_words = link.linked-words::entry::held_words
+
+pub error_error_from : Linked words-error-error_from.code
+error_error_from = link.linked-words::error::error_from
+
+pub scalar_float_of_word : Linked words-scalar-float_of_word.code
+scalar_float_of_word = link.linked-words::scalar::float_of_word
+
+pub scalar_int_of_word : Linked words-scalar-int_of_word.code
+scalar_int_of_word = link.linked-words::scalar::int_of_word
+
+pub scalar_word_of_flag : Linked words-scalar-word_of_flag.code
+scalar_word_of_flag = link.linked-words::scalar::word_of_flag
+
+pub scalar_word_of_float : Linked words-scalar-word_of_float.code
+scalar_word_of_float = link.linked-words::scalar::word_of_float
+
+pub scalar_word_of_int : Linked words-scalar-word_of_int.code
+scalar_word_of_int = link.linked-words::scalar::word_of_int
+
+pub value_value_from : Linked words-value-value_from.code
+value_value_from = link.linked-words::value::value_from
+
+pub value_value_words : Linked words-value-value_words.code
+value_value_words = link.linked-words::value::value_words
