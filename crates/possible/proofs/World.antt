@@ -1,5 +1,5 @@
 -- The functions that the entry points reach, in one look-up: a table for each crate, and each function found there with its own code. So there is an environment in which every call of this
--- code runs what it names, and the theorem of each entry point holds there.
+-- code runs what it names, and the theorem of each entry point that may write the memory holds there.
 use mathlib.Core.Path.{refl}
 use mathlib.Core.Bool.{true}
 use mathlib.Core.List.{[], ◌∷◌}
