@@ -9,12 +9,12 @@ use lib.IntN.{ℤ}
 use lib.Ieee.{Float}
 use lib.ListN.{length, get_or, set}
 use lib.Seq.{get_or-set_same}
+use Rattle.std.specs.Prelude.{Option, None}
 use Rattle.values.specs.Entry.{quality_of, merged}
 use Rattle.values.specs.declared.entry.Quality.{Quality}
 use Rattle.values.specs.declared.entry.Entry.{Entry}
-use Rattle.values.specs.declared.entry.Held.{Held}
 use Rattle.values.specs.declared.entry.TagResult.{TagResult}
-use Rattle.table.specs.Tag.{f0, fresh_tag}
+use Rattle.table.specs.Tag.{fresh_tag}
 use Rattle.table.specs.Table.{with_mark}
 use Rattle.table.specs.declared.tag.Tag.{Tag}
 use Rattle.table.proofs.RowLaws.{set_again}
@@ -79,7 +79,7 @@ module _ (x : Tag) (e : Entry) (start : Float) (polled : Bool) where
 
 module _ (tags : List Tag) (k : ℕ) (r : TagResult) (start : Float) (t : ℤ) (polled : Bool) (tiered : eqb (get_or tags k fresh_tag).tier 0 ≡ false) where
   -- `old` is the cached entry, and `one` and `two` are the table once the tag is marked and the entry e is cached
-  module _ (old : Held) (e : Entry) (one two : List Tag)
+  module _ (old : Option Entry) (e : Entry) (one two : List Tag)
       (cached : old ≡ (get_or tags k fresh_tag).cached)
       (read : e ≡ merged (get_or tags k fresh_tag).cached r t)
       (mark : one ≡ set tags k (marked (get_or tags k fresh_tag) e.quality start))
@@ -91,7 +91,7 @@ module _ (tags : List Tag) (k : ℕ) (r : TagResult) (start : Float) (t : ℤ) (
     unfolding made
     after =
         cache
-        ∙ ap (λ (h : Held). set one k (cached_over h (get_or one k fresh_tag) e)) cached
+        ∙ ap (λ (h : Option Entry). set one k (cached_over h (get_or one k fresh_tag) e)) cached
         ∙ ap (λ (l : List Tag). set l k (cached_over (get_or tags k fresh_tag).cached (get_or l k fresh_tag) e)) mark
         ∙ set_again (λ (y : Tag). cached_over (get_or tags k fresh_tag).cached y e) tags k (marked (get_or tags k fresh_tag) e.quality start) fresh_tag
 
@@ -99,7 +99,7 @@ module _ (tags : List Tag) (k : ℕ) (r : TagResult) (start : Float) (t : ℤ) (
     unfolding applied_at sent_at made
     applied_stopped p s =
         let x = get_or tags k fresh_tag in
-        let known : is_same_as x.cached e ≡ true = ap (λ (h : Held). is_same_as h e) (sym cached) ∙ s in (
+        let known : is_same_as x.cached e ≡ true = ap (λ (h : Option Entry). is_same_as h e) (sym cached) ∙ s in (
           rw tiered (after ∙ ap (set tags k) (stopped_tag x e start polled p known ∙ ap (λ (e : Entry). tag_read x e start polled) read)),
           rw tiered (sym (stopped_sent x e start polled p known) ∙ ap (λ (e : Entry). is_entry_sent x e polled) read),
         )
@@ -112,7 +112,7 @@ module _ (tags : List Tag) (k : ℕ) (r : TagResult) (start : Float) (t : ℤ) (
     unfolding applied_at sent_at made
     applied_on three sent n publish told =
         let x = get_or tags k fresh_tag in
-        let on : is_stopped polled x.cached e ≡ false = ap (λ (h : Held). is_stopped polled h e) (sym cached) ∙ n in
+        let on : is_stopped polled x.cached e ≡ false = ap (λ (h : Option Entry). is_stopped polled h e) (sym cached) ∙ n in
         let here : get_or two k fresh_tag ≡ made = ap (λ (l : List Tag). get_or l k fresh_tag) after ∙ get_or-set_same tags k made fresh_tag (tiered_in tags k tiered) in (
           rw tiered (
               publish
@@ -132,12 +132,12 @@ module _ (tags : List Tag) (k : ℕ) (r : TagResult) (start : Float) (t : ℤ) (
 pub applied_again : (tags : List Tag) (k : ℕ) (r : TagResult) (start : Float) (t : ℤ) (polled : Bool)
     → polled ≡ true
     → Repeated (get_or tags k fresh_tag) r
-    → (set tags k (with_mark (get_or tags k fresh_tag) false f0) ≡ applied_at tags k r start t polled) × (false ≡ sent_at tags k r t polled)
+    → (set tags k (with_mark (get_or tags k fresh_tag) None) ≡ applied_at tags k r start t polled) × (false ≡ sent_at tags k r t polled)
 unfolding applied_at sent_at timing_read cached_over
 applied_again tags k r start t polled p again =
     let x = get_or tags k fresh_tag in
     let e = merged x.cached r t in
-    let clear : with_mark x false f0 ≡ marked x (quality_of r.error) start = ap (λ (q : Quality). marked x q start) (sym again.good) in
+    let clear : with_mark x None ≡ marked x (quality_of r.error) start = ap (λ (q : Quality). marked x q start) (sym again.good) in
     let same : marked x (quality_of r.error) start ≡ cached_over x.cached (marked x (quality_of r.error) start) e = rw (again.known t) in (
       rw again.tiered (ap (set tags k) (clear ∙ same ∙ stopped_tag x e start polled p (again.known t))),
       rw again.tiered (sym (stopped_sent x e start polled p (again.known t))),

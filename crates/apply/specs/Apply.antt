@@ -1,22 +1,20 @@
 -- Rule 7: readings applied.
-use Rattle.std.specs.Prelude.{Bool, true, false, not, ◌&&◌, cond, List, ℕ, eqb, ℤ, Float, get_or, set}
+use Rattle.std.specs.Prelude.{Bool, true, false, not, ◌&&◌, cond, List, ℕ, eqb, ℤ, Float, get_or, set, Option, Some, None}
 use Rattle.values.specs.Entry.{merged, same_entry}
 use Rattle.values.specs.Deadband.{within_deadband}
 use Rattle.values.specs.declared.entry.Quality.{Quality}
 use Rattle.values.specs.declared.entry.Quality.TheVariants.{Good, Bad, Missing, Stale}
 use Rattle.values.specs.declared.entry.Entry.{Entry}
-use Rattle.values.specs.declared.entry.Held.{Held}
-use Rattle.values.specs.declared.entry.Held.TheVariants.{None, Is}
 use Rattle.values.specs.declared.entry.TagResult.{TagResult}
-use Rattle.table.specs.Tag.{f0, fresh_tag}
+use Rattle.table.specs.Tag.{fresh_tag}
 use Rattle.table.specs.declared.tag.Timing.{Timing}
 use Rattle.table.specs.declared.tag.Tag.{Tag}
 use Rattle.engine.specs.Engine.{retry_at}
 
 -- Rule 7: a reading is the same as an entry there is; no entry is the same as none.
-abbrev pub is_same_as : Held → Entry → Bool
+abbrev pub is_same_as : Option Entry → Entry → Bool
 is_same_as None e = false
-is_same_as (Is old) e = same_entry old e
+is_same_as (Some old) e = same_entry old e
 
 abbrev pub is_missing : Quality → Bool
 is_missing Good = false
@@ -27,27 +25,25 @@ is_missing Stale = false
 -- Rule 7: missing sets a mark at start + 10 s; all else clears it.
 unfoldable pub timing_read : Timing → Quality → Float → Timing
 timing_read x q start =
-    cond (is_missing q)
-    (record { read = x.read; last = x.last; missing = true; retry = retry_at start })
-    (record { read = x.read; last = x.last; missing = false; retry = f0 })
+    record { last = x.last; retry = cond (is_missing q) (Some (retry_at start)) None }
 
 -- Rule 7: of those that are the same as the cached one, a polled one stops there.
-abbrev pub is_stopped : Bool → Held → Entry → Bool
+abbrev pub is_stopped : Bool → Option Entry → Entry → Bool
 is_stopped polled cached e = polled && is_same_as cached e
 
 -- Rules 3 and 7: a polled reading is withheld by the deadband from the published entry; a read-back after a write is withheld only if it is the same as
 -- the published. Where nothing is published nothing is withheld.
-abbrev pub is_withheld : Bool → Float → Held → Entry → Bool
+abbrev pub is_withheld : Bool → Float → Option Entry → Entry → Bool
 is_withheld polled band None e = false
-is_withheld polled band (Is published) e = cond polled (within_deadband band published e) (same_entry published e)
+is_withheld polled band (Some published) e = cond polled (within_deadband band published e) (same_entry published e)
 
 -- Rule 7: what goes on is published unless withheld.
 unfoldable pub is_entry_sent : Tag → Entry → Bool → Bool
 is_entry_sent x e polled = not (is_stopped polled x.cached e) && not (is_withheld polled x.settings.band x.published e)
 
 -- the entry e in place of what is held, where it is put
-abbrev pub held_put : Bool → Held → Entry → Held
-held_put b h e = cond b (Is e) h
+abbrev pub held_put : Bool → Option Entry → Entry → Option Entry
+held_put b h e = cond b (Some e) h
 
 -- Rule 7: a reading not the same as the cached one is cached, and one that is sent is the published one from then on.
 unfoldable pub tag_read : Tag → Entry → Float → Bool → Tag

@@ -1,10 +1,9 @@
 -- Rule 7 in steps: what each of them makes of a tag.
-use Rattle.std.specs.Prelude.{◌≡◌, Bool, true, false, cond, ℕ, eqb, ℤ, Float}
+use Rattle.std.specs.Prelude.{◌≡◌, Bool, true, false, cond, ℕ, eqb, ℤ, Float, Option}
 use Rattle.values.specs.Entry.{quality_of, merged}
 use Rattle.values.specs.declared.entry.Quality.{Quality}
 use Rattle.values.specs.declared.entry.Quality.TheVariants.{Good}
 use Rattle.values.specs.declared.entry.Entry.{Entry}
-use Rattle.values.specs.declared.entry.Held.{Held}
 use Rattle.values.specs.declared.entry.TagResult.{TagResult}
 use Rattle.words.specs.declared.entry.EntryWords.{EntryWords}
 use Rattle.table.specs.Table.{with_timing, with_cached, with_published}
@@ -16,7 +15,7 @@ abbrev pub marked : Tag → Quality → Float → Tag
 marked x q start = with_timing x (timing_read x.timing q start)
 
 -- the entry e cached, if it is not the same as what was
-unfoldable pub cached_over : Held → Tag → Entry → Tag
+unfoldable pub cached_over : Option Entry → Tag → Entry → Tag
 cached_over old x e = cond (is_same_as old e) x (with_cached x e)
 
 abbrev pub is_withheld_from : Tag → Entry → Bool → Bool

@@ -14,59 +14,50 @@ use fields::{put_mark, settings_of, tier_of};
 use memory::cells::cell;
 use results::result::result_at;
 use values::deadband::within_deadband;
-use values::entry::{Entry, Held, Quality, TagResult, merge, same};
+use values::entry::{Entry, Quality, TagResult, merge, same};
 use words::entry::EntryWords;
 use words::scalar::float_of_word;
 
-fn is_same_as(h: Held, e: Entry) -> bool
+fn is_same_as(h: Option<Entry>, e: Entry) -> bool
     ensures { result ≡ is_same_as h e }
 {
     match h {
-        Held::None => false,
-        Held::Is(old) => same(old, e),
+        None => false,
+        Some(old) => same(old, e),
     }
 }
 
 fn is_missing(q: Quality) -> bool
     ensures { result ≡ is_missing q }
 {
-    match q {
-        Quality::Good => false,
-        Quality::Bad => false,
-        Quality::Missing => true,
-        Quality::Stale => false,
-    }
+    matches!(q, Quality::Missing)
 }
 
 // A missing tag is not asked for in every round.
 fn mark(table: &mut [u8], k: usize, q: Quality, start: f64)
     ensures { table_in table.new ≡ set (table_in table.old) k (marked (get_or (table_in table.old) k fresh_tag) q start) }
 {
-    if is_missing(q) {
-        let retry = Engine::retry_at(start);
-        put_mark(table, k, true, retry);
-        return;
-    }
-    put_mark(table, k, false, 0.0);
+    let retry = if is_missing(q) {
+        Some(Engine::retry_at(start))
+    } else {
+        None
+    };
+    put_mark(table, k, retry);
 }
 
 // The band is measured from what was published last. A read-back shows what a write did, so no band holds it back.
-fn is_withheld(polled: bool, band: f64, published: Held, e: Entry) -> bool
+fn is_withheld(polled: bool, band: f64, published: Option<Entry>, e: Entry) -> bool
     ensures { result ≡ is_withheld polled band published e }
 {
     match published {
-        Held::None => false,
-        Held::Is(p) => {
-            if polled {
-                return within_deadband(band, p, e);
-            }
-            same(p, e)
-        }
+        None => false,
+        Some(p) if polled => within_deadband(band, p, e),
+        Some(p) => same(p, e),
     }
 }
 
 // An entry that is new is cached. Answers whether it is known already.
-fn cache(table: &mut [u8], k: usize, c: Held, e: Entry) -> bool
+fn cache(table: &mut [u8], k: usize, c: Option<Entry>, e: Entry) -> bool
     ensures { (table_in table.new ≡ set (table_in table.old) k (cached_over c (get_or (table_in table.old) k fresh_tag) e)) × (result ≡ is_same_as c e) }
 {
     if is_same_as(c, e) {
@@ -79,9 +70,8 @@ fn cache(table: &mut [u8], k: usize, c: Held, e: Entry) -> bool
 fn publish(table: &mut [u8], k: usize, e: Entry, polled: bool) -> bool
     ensures { (table_in table.new ≡ set (table_in table.old) k (published_over (get_or (table_in table.old) k fresh_tag) e polled)) × (result ≡ not (is_withheld_from (get_or (table_in table.old) k fresh_tag) e polled)) }
 {
-    let p = published_of(table, k);
-    let s = settings_of(table, k);
-    if is_withheld(polled, s.band, p, e) {
+    let band = settings_of(table, k).band;
+    if is_withheld(polled, band, published_of(table, k), e) {
         return false;
     }
     put_published(table, k, e);
@@ -97,12 +87,9 @@ pub fn apply_at(table: &mut [u8], k: usize, r: TagResult, start: f64, t: i64, po
     }
     let c = cached_of(table, k);
     let e = merge(c, r, t);
-    let q = e.quality;
-    mark(table, k, q, start);
-    if cache(table, k, c, e) {
-        if polled {
-            return false;
-        }
+    mark(table, k, e.quality, start);
+    if cache(table, k, c, e) && polled {
+        return false;
     }
     publish(table, k, e, polled)
 }
@@ -111,27 +98,15 @@ pub fn apply_at(table: &mut [u8], k: usize, r: TagResult, start: f64, t: i64, po
 fn is_same_as_itself(kind: u64, word: u64) -> bool
     ensures { result ≡ same_value (value_from kind word) (value_from kind word) }
 {
-    if kind != 3 {
-        return true;
-    }
     let x = float_of_word(word);
-    x == x
+    kind != 3 || x == x
 }
 
 // Whether the words are those of a good entry with this value.
 fn is_good_as(w: EntryWords, kind: u64, word: u64) -> bool
     ensures { result ≡ true → GoodAs w kind word }
 {
-    if w.held != 1 {
-        return false;
-    }
-    if w.error != 0 {
-        return false;
-    }
-    if w.kind != kind {
-        return false;
-    }
-    w.word == word
+    w.held == 1 && w.error == 0 && w.kind == kind && w.word == word
 }
 
 // Whether result i is the good value that the tag has cached, word for word. It says no of some that are the
@@ -139,22 +114,12 @@ fn is_good_as(w: EntryWords, kind: u64, word: u64) -> bool
 fn is_repeat(table: &[u8], k: usize, results: &[u8], i: usize) -> bool
     ensures { result ≡ true → Repeated (get_or (table_in table.now) k fresh_tag) (result_in results.now i) }
 {
-    if results.len() / 32 <= i {
-        return false;
-    }
-    if tier_of(table, k) == 0 {
-        return false;
-    }
-    if cell(results, 4 * i + 2) != 0 {
+    if results.len() / 32 <= i || tier_of(table, k) == 0 || cell(results, 4 * i + 2) != 0 {
         return false;
     }
     let kind = cell(results, 4 * i);
     let word = cell(results, 4 * i + 1);
-    let w = cached_words(table, k);
-    if !is_good_as(w, kind, word) {
-        return false;
-    }
-    is_same_as_itself(kind, word)
+    is_good_as(cached_words(table, k), kind, word) && is_same_as_itself(kind, word)
 }
 
 // Result i is a reading of the tag k. Most that are polled bring a value again, and these only clear the mark.
@@ -169,12 +134,9 @@ pub fn apply_result(
 ) -> bool
     ensures { (table_in table.new ≡ applied_at (table_in table.old) k (result_in results.now i) start t polled) × (result ≡ sent_at (table_in table.old) k (result_in results.now i) t polled) }
 {
-    if polled {
-        if is_repeat(table, k, results, i) {
-            put_mark(table, k, false, 0.0);
-            return false;
-        }
+    if polled && is_repeat(table, k, results, i) {
+        put_mark(table, k, None);
+        return false;
     }
-    let r = result_at(results, i);
-    apply_at(table, k, r, start, t, polled)
+    apply_at(table, k, result_at(results, i), start, t, polled)
 }

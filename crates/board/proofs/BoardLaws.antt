@@ -18,7 +18,7 @@ use Rattle.table.proofs.RowLaws.{length-table}
 use Rattle.groups.specs.Groups.{groups_in}
 use Rattle.groups.specs.declared.group.Group.{Group}
 use Rattle.settings.specs.Configured.{configured_in}
-use Rattle.settings.specs.declared.configured.Configured.{Configured}
+use Rattle.table.specs.declared.tag.GroupRate.{GroupRate}
 use Rattle.queue.specs.Queue.{queue_in, queue_room, write_room}
 use Rattle.queue.specs.declared.Write.{Write}
 use Rattle.layout.specs.Parts.{part, start_of, size_of, total, parts, replaced}
@@ -189,7 +189,7 @@ groups_of : (P : ℕ → List ℕ) (y : List ℕ) (x : List Group) → groups_in
 unfolding board_from
 groups_of P y x e = rw e refl
 
-configured_of : (P : ℕ → List ℕ) (y : List ℕ) (x : List Configured) → configured_in y ≡ x → board_from (replaced P configured y) ≡ with_configured (board_from P) x
+configured_of : (P : ℕ → List ℕ) (y : List ℕ) (x : List GroupRate) → configured_in y ≡ x → board_from (replaced P configured y) ≡ with_configured (board_from P) x
 unfolding board_from
 configured_of P y x e = rw e refl
 
@@ -256,7 +256,7 @@ module _ (bs y : List ℕ) (h : IsBoard bs) (a e : ℕ) where
       ∙ groups_of (parts_in bs) y (f (groups_in (parts_in bs groups))) (d ∙ ap (λ (z : List ℕ). f (groups_in z)) (part_lent groups bs a e ea ee)))
 
   pub configured_put : a ≡ start_of (sizes (tags_in bs)) configured → e ≡ start_of (sizes (tags_in bs)) (suc configured)
-      → (f : List Configured → List Configured) → length y ≡ length (part a (e - a) bs) → configured_in y ≡ f (configured_in (part a (e - a) bs))
+      → (f : List GroupRate → List GroupRate) → length y ≡ length (part a (e - a) bs) → configured_in y ≡ f (configured_in (part a (e - a) bs))
       → Holds (put_mid a (e - a) bs y) (with_configured (board_in bs) (f (board_in bs).configured))
   unfolding board_in board_from
   configured_put ea ee f l d =

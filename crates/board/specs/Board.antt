@@ -8,7 +8,7 @@ use Rattle.table.specs.declared.tag.Tag.{Tag}
 use Rattle.groups.specs.Groups.{Groups, grouped}
 use Rattle.groups.specs.declared.group.Group.{Group}
 use Rattle.settings.specs.Configured.{configured_in}
-use Rattle.settings.specs.declared.configured.Configured.{Configured}
+use Rattle.table.specs.declared.tag.GroupRate.{GroupRate}
 use Rattle.queue.specs.Queue.{queue_in}
 use Rattle.queue.specs.declared.Write.{Write}
 use Rattle.board.specs.Layout.{IsBoard, parts_in, back, recorded, configured, queue, groups, table, order, graces, asked, keys, words}
@@ -37,7 +37,7 @@ pub record Board : Type 0 where
   pub table : Table
   pub groups : Groups
   pub keys : List ℕ
-  pub configured : List Configured
+  pub configured : List GroupRate
   pub queue : List Write
   pub asked : List ℕ
   pub back : List ℕ
@@ -79,7 +79,7 @@ with_groups B x = record { table = B.table; groups = x; keys = B.keys; configure
 abbrev pub with_keys : Board → List ℕ → Board
 with_keys B x = record { table = B.table; groups = B.groups; keys = x; configured = B.configured; queue = B.queue; asked = B.asked; back = B.back }
 
-abbrev pub with_configured : Board → List Configured → Board
+abbrev pub with_configured : Board → List GroupRate → Board
 with_configured B x = record { table = B.table; groups = B.groups; keys = B.keys; configured = x; queue = B.queue; asked = B.asked; back = B.back }
 
 abbrev pub with_queue : Board → List Write → Board

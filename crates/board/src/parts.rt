@@ -11,96 +11,75 @@ pub fn back_of(b: &[u8]) -> &[u8]
     requires { IsBoard b.now }
     ensures { result.now ≡ parts_in b.now back }
 {
-    let end = recorded_start(b);
-    &b[0..end]
+    &b[0..recorded_start(b)]
 }
 
 pub fn recorded_of(b: &[u8]) -> &[u8]
     requires { IsBoard b.now }
     ensures { result.now ≡ parts_in b.now recorded }
 {
-    let start = recorded_start(b);
-    let end = configured_start(b);
-    &b[start..end]
+    &b[recorded_start(b)..configured_start(b)]
 }
 
 pub fn configured_of(b: &[u8]) -> &[u8]
     requires { IsBoard b.now }
     ensures { result.now ≡ parts_in b.now configured }
 {
-    let start = configured_start(b);
-    let end = queue_start(b);
-    &b[start..end]
+    &b[configured_start(b)..queue_start(b)]
 }
 
 pub fn queue_of(b: &[u8]) -> &[u8]
     requires { IsBoard b.now }
     ensures { result.now ≡ parts_in b.now queue }
 {
-    let start = queue_start(b);
-    let end = groups_start(b);
-    &b[start..end]
+    &b[queue_start(b)..groups_start(b)]
 }
 
 pub fn groups_of(b: &[u8]) -> &[u8]
     requires { IsBoard b.now }
     ensures { result.now ≡ parts_in b.now groups }
 {
-    let start = groups_start(b);
-    let end = table_start(b);
-    &b[start..end]
+    &b[groups_start(b)..table_start(b)]
 }
 
 pub fn table_of(b: &[u8]) -> &[u8]
     requires { IsBoard b.now }
     ensures { result.now ≡ parts_in b.now table }
 {
-    let start = table_start(b);
-    let end = order_start(b);
-    &b[start..end]
+    &b[table_start(b)..order_start(b)]
 }
 
 pub fn order_of(b: &[u8]) -> &[u8]
     requires { IsBoard b.now }
     ensures { result.now ≡ parts_in b.now order }
 {
-    let start = order_start(b);
-    let end = graces_start(b);
-    &b[start..end]
+    &b[order_start(b)..graces_start(b)]
 }
 
 pub fn graces_of(b: &[u8]) -> &[u8]
     requires { IsBoard b.now }
     ensures { result.now ≡ parts_in b.now graces }
 {
-    let start = graces_start(b);
-    let end = asked_start(b);
-    &b[start..end]
+    &b[graces_start(b)..asked_start(b)]
 }
 
 pub fn asked_of(b: &[u8]) -> &[u8]
     requires { IsBoard b.now }
     ensures { result.now ≡ parts_in b.now asked }
 {
-    let start = asked_start(b);
-    let end = keys_start(b);
-    &b[start..end]
+    &b[asked_start(b)..keys_start(b)]
 }
 
 pub fn keys_of(b: &[u8]) -> &[u8]
     requires { IsBoard b.now }
     ensures { result.now ≡ parts_in b.now keys }
 {
-    let start = keys_start(b);
-    let end = words_start(b);
-    &b[start..end]
+    &b[keys_start(b)..words_start(b)]
 }
 
 pub fn words_of(b: &[u8]) -> &[u8]
     requires { IsBoard b.now }
     ensures { result.now ≡ parts_in b.now words }
 {
-    let start = words_start(b);
-    let end = b.len();
-    &b[start..end]
+    &b[words_start(b)..]
 }

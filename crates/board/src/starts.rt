@@ -43,13 +43,7 @@ pub fn is_board_size(n: usize) -> bool
         return false;
     }
     let tags = (n - FIXED) / PER_TAG;
-    if tags == 0 {
-        return false;
-    }
-    if MAX_NAMES < tags {
-        return false;
-    }
-    n == FIXED + PER_TAG * tags
+    tags != 0 && tags <= MAX_NAMES && n == FIXED + PER_TAG * tags
 }
 
 // How many tags the board is for.

@@ -8,7 +8,7 @@ use super::parts::{table_of, words_of};
 use super::starts::{order_start, table_start};
 use memory::halves::half;
 use table::tag::{Description, Grace, Settings, Tag, Timing};
-use values::entry::Held;
+use values::entry::Entry;
 
 pub fn tag_of(b: &[u8], k: usize) -> Tag
     requires { IsBoard b.now }
@@ -24,7 +24,7 @@ pub fn tier_of(b: &[u8], k: usize) -> u8
     fields::tier_of(table_of(b), k)
 }
 
-pub fn grace_of(b: &[u8], k: usize) -> Grace
+pub fn grace_of(b: &[u8], k: usize) -> Option<Grace>
     requires { IsBoard b.now }
     ensures { result ≡ (tag_at (board_in b.now).table k).grace }
 {
@@ -66,7 +66,7 @@ pub fn settings_of(b: &[u8], k: usize) -> Settings
     fields::settings_of(table_of(b), k)
 }
 
-pub fn cached_of(b: &[u8], k: usize) -> Held
+pub fn cached_of(b: &[u8], k: usize) -> Option<Entry>
     requires { IsBoard b.now }
     ensures { result ≡ (tag_at (board_in b.now).table k).cached }
 {
@@ -88,6 +88,7 @@ pub fn is_bit(b: &[u8], k: usize) -> bool
     word_of(b, k) != 0
 }
 
+// Here and below the bounds are worked out first: a range of `b` that is lent to be written borrows all of `b`.
 pub fn put_tag(b: &mut [u8], k: usize, x: Tag)
     requires { IsBoard b.old }
     ensures { Holds b.new (with_tag (board_in b.old) k x) }
@@ -98,7 +99,7 @@ pub fn put_tag(b: &mut [u8], k: usize, x: Tag)
 }
 
 // Tier and grace, whether the tag is new in tier 2, and whether its description is wanted.
-pub fn put_standing(b: &mut [u8], k: usize, tier: u8, g: Grace, added: bool, wants: bool)
+pub fn put_standing(b: &mut [u8], k: usize, tier: u8, g: Option<Grace>, added: bool, wants: bool)
     requires { IsBoard b.old }
     ensures { Holds b.new (with_tag (board_in b.old) k (with_standing (tag_at (board_in b.old).table k) tier g added wants)) }
 {

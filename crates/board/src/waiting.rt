@@ -8,7 +8,7 @@ ghost use Rattle.board.specs.Board.{Holds, board_in, with_queue, with_back};
 use super::parts::queue_of;
 use super::starts::{groups_start, queue_start, recorded_start};
 use lent::put_bytes;
-use queue::{Popped, Write};
+use queue::Write;
 
 pub fn queued(b: &[u8]) -> usize
     requires { IsBoard b.now }
@@ -27,7 +27,7 @@ pub fn push_write(b: &mut [u8], w: Write)
 }
 
 // The first write, taken out of the queue.
-pub fn pop_write(b: &mut [u8]) -> Popped
+pub fn pop_write(b: &mut [u8]) -> Option<Write>
     requires { IsBoard b.old }
     ensures { (result ≡ popped (board_in b.old).queue) × Holds b.new (with_queue (board_in b.old) (rest (board_in b.old).queue)) }
 {

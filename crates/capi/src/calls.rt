@@ -31,8 +31,7 @@ pub fn wz_set_tier(mem: &mut [u8], clock: f64, tag: u32, tier: u32) -> u32
     if n != 0 {
         return n;
     }
-    let o = e.options;
-    set_tier(mem, tag as u16, tier as u8, o.grace, clock);
+    set_tier(mem, tag as u16, tier as u8, e.options.grace, clock);
     put_clock(mem, clock);
     0
 }
@@ -49,8 +48,7 @@ pub fn wz_load(mem: &mut [u8], clock: f64, list: &[u8]) -> u32
     if n != 0 {
         return n;
     }
-    let o = e.options;
-    load_panel(mem, list, o.grace, clock);
+    load_panel(mem, list, e.options.grace, clock);
     put_clock(mem, clock);
     0
 }
@@ -69,7 +67,7 @@ pub fn wz_write(mem: &mut [u8], tag: u32, kind: u64, word: u64) -> u32
     }
     let w = Write {
         tag: tag as u16,
-        value: value,
+        value,
     };
     push_write(mem, w);
     0
@@ -84,8 +82,7 @@ pub fn wz_stop(mem: &mut [u8]) -> u32
     }
     let e = head_of(mem);
     let link = stopped(e.link);
-    let halted = with_link(e, link);
-    put_head(mem, halted);
+    put_head(mem, with_link(e, link));
     0
 }
 
@@ -107,15 +104,14 @@ pub fn wz_step(
     }
     let e = head_of(mem);
     let a = Answer {
-        kind: kind,
-        number: number,
-        message: message,
+        kind,
+        number,
+        message,
     };
     let s = super::whole::step(mem, out, e, a, list, clock, wall);
-    let r = s.reply;
-    if r.code != 0 {
-        return r;
+    if s.reply.code != 0 {
+        return s.reply;
     }
     put_head(mem, s.head);
-    r
+    s.reply
 }

@@ -34,8 +34,7 @@ pub fn wz_create<'a>(
     if n != 0 {
         return n;
     }
-    let fresh = Engine::fresh(options, count as u16);
     create(mem, names, ends, settings, groups);
-    put_head(mem, fresh);
+    put_head(mem, Engine::fresh(options, count as u16));
     0
 }

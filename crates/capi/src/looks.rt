@@ -18,8 +18,7 @@ pub fn wz_state(mem: &[u8]) -> StateLook
     if size_check(mem.len()) != 0 {
         return no_state(NOT_AN_ENGINE as u64);
     }
-    let e = head_of(mem);
-    state_of(e.link)
+    state_of(head_of(mem).link)
 }
 
 // The statistics of the rounds.
@@ -29,8 +28,7 @@ pub fn wz_stats(mem: &[u8]) -> StatsLook
     if size_check(mem.len()) != 0 {
         return no_stats(NOT_AN_ENGINE as u64);
     }
-    let e = head_of(mem);
-    stats_of(e.stats)
+    stats_of(head_of(mem).stats)
 }
 
 // How many tags are in each tier.
@@ -83,6 +81,5 @@ pub fn wz_tag(mem: &[u8], tag: u32) -> TagLook
     if size_check(mem.len()) != 0 {
         return no_look(NOT_AN_ENGINE as u64);
     }
-    let e = head_of(mem);
-    shown::tag::tag(board_of(mem), e.count, tag)
+    shown::tag::tag(board_of(mem), head_of(mem).count, tag)
 }

@@ -36,7 +36,7 @@ pub fn memory_size(count: usize) -> usize
     HEAD + size_for(count)
 }
 
-// 0 where an engine has n bytes.
+// 0 where an engine has n bytes. Each entry point asks this first, and answers a refusal in a type of its own.
 pub fn size_check(n: usize) -> u32
     ensures { result ≡ size_check n }
 {

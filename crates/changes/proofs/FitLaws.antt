@@ -13,6 +13,7 @@ use borrow.Author.Tests.{ltb-true, ltb-false}
 use mir.Val.{SFits, to_z}
 use mir.Syntax.{w64}
 use mir.Facts.{to_z-of_z, sfits_to_z, Fits-of_z}
+use Rattle.std.specs.Prelude.{Option, Some, None}
 use Rattle.lists.specs.Keep.{Below}
 use Rattle.values.specs.Entry.{quality_number}
 use Rattle.values.specs.Error.{kind_number}
@@ -20,13 +21,9 @@ use Rattle.values.specs.declared.value.Value.{Value}
 use Rattle.values.specs.declared.value.Value.TheVariants.{Null, Bool as Flag, Int, Float}
 use Rattle.values.specs.declared.error.ErrorKind.{ErrorKind}
 use Rattle.values.specs.declared.error.ErrorKind.TheVariants.{NotFound, Access, Other}
-use Rattle.values.specs.declared.error.Error.{Error}
-use Rattle.values.specs.declared.error.Error.TheVariants.{None, Is}
 use Rattle.values.specs.declared.entry.Quality.{Quality}
 use Rattle.values.specs.declared.entry.Quality.TheVariants.{Good, Bad, Missing, Stale}
 use Rattle.values.specs.declared.entry.Entry.{Entry}
-use Rattle.values.specs.declared.entry.Held.{Held}
-use Rattle.values.specs.declared.entry.Held.TheVariants.{None as Nothing, Is as Has}
 use Rattle.words.specs.Value.{value_from, value_words_of}
 use Rattle.words.specs.Error.{kind_from, error_from, error_words_of}
 use Rattle.words.specs.Entry.{entry_from, held_from, entry_words_of, held_words_of, entry_cells}
@@ -40,6 +37,7 @@ use Rattle.table.specs.Row.{tag_from, entry_words_at}
 use Rattle.table.specs.Table.{table_in}
 use Rattle.table.proofs.RowLaws.{table_at}
 use Rattle.changes.specs.Changes.{entry_of}
+use Rattle.values.specs.declared.error.TagError.{TagError}
 
 abbrev FitValue : Value → Type 0
 FitValue Null = Unit {0}
@@ -52,16 +50,16 @@ FitKind NotFound = Unit {0}
 FitKind Access = Unit {0}
 FitKind (Other code) = code < 0x1_0000
 
-abbrev FitError : Error → Type 0
+abbrev FitError : Option TagError → Type 0
 FitError None = Unit {0}
-FitError (Is x) = FitKind x.kind × (x.message < 0x1_0000_0000)
+FitError (Some x) = FitKind x.kind × (x.message < 0x1_0000_0000)
 
 abbrev pub FitEntry : Entry → Type 0
 FitEntry e = FitValue e.value × SFits w64 e.t × FitError e.error
 
-abbrev pub Fit : Held → Type 0
-Fit Nothing = Unit {0}
-Fit (Has e) = FitEntry e
+abbrev pub Fit : Option Entry → Type 0
+Fit None = Unit {0}
+Fit (Some e) = FitEntry e
 
 -- ---- the words of such an entry hold it
 
@@ -77,18 +75,18 @@ kind_back NotFound f = refl
 kind_back Access f = refl
 kind_back (Other code) f = let same : code + 2 + 1 ≡ code + 3 = omega arith in rw (same) (kind_other code f)
 
-error_back : (e : Error) → FitError e → error_from (error_words_of e).kind (error_words_of e).message ≡ e
+error_back : (e : Option TagError) → FitError e → error_from (error_words_of e).kind (error_words_of e).message ≡ e
 error_back None f = refl
-error_back (Is x) f = error_coded x (kind_number x.kind + 1) (omega arith) (kind_back x.kind f.0) f.1
+error_back (Some x) f = error_coded x (kind_number x.kind + 1) (omega arith) (kind_back x.kind f.0) f.1
 
 entry_back : (e : Entry) → FitEntry e → entry_from (entry_words_of e) ≡ e
 unfolding entry_from entry_words_of
 entry_back e f = rw (quality_coded e.quality, value-back e.value f.0, to_z-of_z f.1, error_back e.error f.2)
 
-pub held_back : (h : Held) → Fit h → entry_from (held_words_of h) ≡ entry_of h
+pub held_back : (h : Option Entry) → Fit h → entry_from (held_words_of h) ≡ entry_of h
 unfolding entry_from
-held_back Nothing f = refl
-held_back (Has e) f = entry_back e f
+held_back None f = refl
+held_back (Some e) f = entry_back e f
 
 -- ---- they are of 64 bits
 
@@ -110,14 +108,14 @@ kind_small NotFound f = omega arith
 kind_small Access f = omega arith
 kind_small (Other code) f = omega arith
 
-error_small : (e : Error) → FitError e → ((error_words_of e).kind < 2 ^ 64) × ((error_words_of e).message < 2 ^ 64)
+error_small : (e : Option TagError) → FitError e → ((error_words_of e).kind < 2 ^ 64) × ((error_words_of e).message < 2 ^ 64)
 error_small None f = (omega arith, omega arith)
-error_small (Is x) f = (kind_small x.kind f.0, omega (arith, f.1))
+error_small (Some x) f = (kind_small x.kind f.0, omega (arith, f.1))
 
-pub cells_small : (h : Held) → Fit h → Below (2 ^ 64) (entry_cells h)
+pub cells_small : (h : Option Entry) → Fit h → Below (2 ^ 64) (entry_cells h)
 unfolding entry_words_of
-cells_small Nothing f = (omega arith, (omega arith, (omega arith, (omega arith, (omega arith, (omega arith, (omega arith, (omega arith, tt))))))))
-cells_small (Has e) f =
+cells_small None f = (omega arith, (omega arith, (omega arith, (omega arith, (omega arith, (omega arith, (omega arith, (omega arith, tt))))))))
+cells_small (Some e) f =
     let v = value_small e.value f.0 in
     let x = error_small e.error f.2 in
     (quality_small e.quality, (v.0, (v.1, ((Fits-of_z f.1).fits, (x.0, (x.1, (omega arith, (omega arith, tt))))))))
@@ -144,7 +142,7 @@ kind_fit n = go (eqb n 2) (ltb n 3)
 error_fit : (kind message : ℕ) → FitError (error_from kind message)
 error_fit kind message = go (eqb kind 0)
   where
-    go : (a : Bool) → FitError (cond a None (Is (record { kind = kind_from kind; message = message % 0x1_0000_0000 })))
+    go : (a : Bool) → FitError (cond a None (Some (record { kind = kind_from kind; message = message % 0x1_0000_0000 })))
     go true = tt
     go false = (kind_fit kind, mod-lt message (omega arith))
 
@@ -152,7 +150,7 @@ held_fit : (w : EntryWords) → w.word < 2 ^ 64 → w.t < 2 ^ 64 → Fit (held_f
 unfolding entry_from
 held_fit w a b = go (eqb w.held 0)
   where
-    go : (z : Bool) → Fit (cond z Nothing (Has (entry_from w)))
+    go : (z : Bool) → Fit (cond z None (Some (entry_from w)))
     go true = tt
     go false = (value_fit w.kind w.word a, sfits_to_z (record { fits = b }), error_fit w.error w.message)
 

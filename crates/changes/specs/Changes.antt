@@ -1,11 +1,8 @@
 -- The changes that a list of cells holds, nine cells each, as `lent` writes them.
-use Rattle.std.specs.Prelude.{List, [], ◌∷◌, ◌++◌, ℕ, zero, suc, ◌+◌, ◌*◌, ◌%◌, min, pos, get_or}
+use Rattle.std.specs.Prelude.{List, [], ◌∷◌, ◌++◌, ℕ, zero, suc, ◌+◌, ◌*◌, ◌%◌, min, pos, get_or, Option, Some, None}
 use Rattle.values.specs.declared.value.Value.TheVariants.{Null}
-use Rattle.values.specs.declared.error.Error.TheVariants.{None}
 use Rattle.values.specs.declared.entry.Quality.TheVariants.{Good}
 use Rattle.values.specs.declared.entry.Entry.{Entry}
-use Rattle.values.specs.declared.entry.Held.{Held}
-use Rattle.values.specs.declared.entry.Held.TheVariants.{None as Nothing, Is as Has}
 use Rattle.words.specs.Entry.{entry_from}
 use Rattle.memory.specs.Cells.{cells_in}
 use Rattle.names.specs.Directory.{max_names}
@@ -23,9 +20,9 @@ abbrev pub no_change : Change
 no_change = record { tag = 0; entry = no_entry }
 
 -- what is told of an entry, or of none
-abbrev pub entry_of : Held → Entry
-entry_of Nothing = no_entry
-entry_of (Has e) = e
+abbrev pub entry_of : Option Entry → Entry
+entry_of None = no_entry
+entry_of (Some e) = e
 
 -- Rule 7: the change told of the tag k
 abbrev pub change_of : List Tag → ℕ → Change

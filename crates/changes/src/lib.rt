@@ -13,7 +13,6 @@ use memory::cells::cell;
 use names::directory::MAX_NAMES;
 use runs::{at, fill};
 use values::entry::{Entry, Quality};
-use values::error::Error;
 use values::value::Value;
 use words::entry::{EntryWords, entry_from};
 
@@ -23,7 +22,7 @@ pub struct Change {
     pub entry: Entry,
 }
 
-// The first `n` of the items.
+// The first `n` of the items: without a heap, a run of changes has room for a whole directory, and its length beside it.
 #[derive(Clone, Copy)]
 struct Told {
     items: [Change; MAX_NAMES],
@@ -38,12 +37,9 @@ impl Change {
             value: Value::Null,
             quality: Quality::Good,
             t: 0,
-            error: Error::None,
+            error: None,
         };
-        Change {
-            tag: 0,
-            entry: entry,
-        }
+        Change { tag: 0, entry }
     }
 }
 
@@ -63,7 +59,7 @@ fn change_in(list: &[u8], i: usize) -> Change
     });
     Change {
         tag: (cell(list, p) % 65536) as u16,
-        entry: entry,
+        entry,
     }
 }
 
@@ -71,18 +67,12 @@ fn change_in(list: &[u8], i: usize) -> Change
 fn changes_in(list: &[u8], n: usize) -> Told
     ensures { (result.n ≡ min n max_names) × (take result.n result.items ≡ told list.now n) }
 {
-    let most = if n < MAX_NAMES { n } else { MAX_NAMES };
+    let most = n.min(MAX_NAMES);
     let mut items = [Change::none(); MAX_NAMES];
-    let mut i: usize = 0;
-    while i < most {
-        let c = change_in(list, i);
-        items[i] = c;
-        i += 1;
+    for i in 0..most {
+        items[i] = change_in(list, i);
     }
-    Told {
-        items: items,
-        n: most,
-    }
+    Told { items, n: most }
 }
 
 // The first n of `from` over the first places of `out`; the places past them keep their contents. A run with fewer places
@@ -99,9 +89,7 @@ pub fn read_changes(out: &mut [Change], list: &[u8], n: usize) -> u32
     ensures { (result ≡ answer max_names 43 out.old) × (out.new ≡ filled max_names (min n max_names) (told list.now n) out.old) }
 {
     let told = changes_in(list, n);
-    let items = told.items;
-    let most = told.n;
-    fill_changes(out, items, most)
+    fill_changes(out, told.items, told.n)
 }
 
 // One of a run; past its end `none`.

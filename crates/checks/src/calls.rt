@@ -66,8 +66,7 @@ pub fn write_check(board: &[u8], e: Engine, tag: u32, value: Value) -> u32
     if e.count as u32 <= tag {
         return 23;
     }
-    let link = e.link;
-    if !is_state(link, State::Connected) {
+    if !is_state(e.link, State::Connected) {
         return 31;
     }
     if 32 <= queued(board) {

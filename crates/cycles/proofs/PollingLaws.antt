@@ -4,11 +4,10 @@ use mathlib.Core.Bool.{Bool, true, false, cond, true≢false}
 use mathlib.Core.List.{List, [], ◌∷◌}
 use Prim.Native.Nat.{ℕ}
 use borrow.Author.Tests.{eq-eqb, ne_eqb}
+use Rattle.std.specs.Prelude.{Option, Some, None}
 use Rattle.lent.specs.Lent.{wrote_all}
 use Rattle.rounds.specs.Round.{Round}
 use Rattle.queue.specs.Queue.{popped, rest}
-use Rattle.queue.specs.declared.Popped.{Popped}
-use Rattle.queue.specs.declared.Popped.TheVariants.{Nothing, Is}
 use Rattle.queue.specs.declared.Write.{Write}
 use Rattle.board.specs.Board.{Board, board_in, with_queue}
 use Rattle.replies.specs.declared.reply.Reply.{Reply}
@@ -17,15 +16,15 @@ use Rattle.replies.specs.Worker.{Worker, At, Told, worker, Done, Quietly, goes_o
 use Rattle.replies.proofs.DoneLaws.{done_is, wrote_nothing}
 use Rattle.cycles.specs.Polling.{worked, waiting, poll, lastly, finished}
 
-abbrev pub is_nothing : Popped → Bool
-is_nothing Nothing = true
-is_nothing (Is w) = false
+abbrev pub is_nothing : Option Write → Bool
+is_nothing None = true
+is_nothing (Some w) = false
 
 -- a pop of an empty queue leaves the board as it is
-pub none_popped : (B : Board) → popped B.queue ≡ Nothing → with_queue B (rest B.queue) ≡ B
+pub none_popped : (B : Board) → popped B.queue ≡ None → with_queue B (rest B.queue) ≡ B
 none_popped B e = ap (with_queue B) (same B.queue e)
   where
-    same : (q : List Write) → popped q ≡ Nothing → rest q ≡ q
+    same : (q : List Write) → popped q ≡ None → rest q ≡ q
     same [] h = refl
     same (w ∷ ws) h = absurd (true≢false (sym (ap is_nothing h)))
 

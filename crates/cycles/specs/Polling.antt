@@ -1,13 +1,11 @@
 -- Rule 9: rounds, the writes behind them, and the waits between them.
-use Rattle.std.specs.Prelude.{false, cond, List, [], ℕ, Float, length}
+use Rattle.std.specs.Prelude.{false, cond, List, [], ℕ, Float, length, Option, Some, None}
 use Rattle.std.proofs.Math.Option.{some}
 use Rattle.std.specs.Float.{binary64}
 use Rattle.std.specs.Float.Ieee.{round as rounded, sub, le}
 use Rattle.lent.specs.Lent.{tag_bytes}
 use Rattle.rounds.specs.Round.{Round, with_polled, round_of}
 use Rattle.queue.specs.Queue.{popped, rest}
-use Rattle.queue.specs.declared.Popped.{Popped}
-use Rattle.queue.specs.declared.Popped.TheVariants.{Nothing, Is}
 use Rattle.heads.specs.Progress.{with_writing, with_round}
 use Rattle.heads.specs.Stats.{read_stats, tail_stats}
 use Rattle.heads.specs.declared.progress.After.{After}
@@ -20,6 +18,7 @@ use Rattle.replies.specs.Reply as reply
 use Rattle.replies.specs.Worker.{Worker, At, Told, Done, tell, asks, worker, with_board, phased, tallied, goes_on}
 use Rattle.replies.specs.declared.reply.Said.{Said}
 use Rattle.replies.specs.Losing.{is_empty, ended}
+use Rattle.queue.specs.declared.Write.{Write}
 
 -- Rule 9: seconds since the round's start
 abbrev pub elapsed : Worker → At → Float
@@ -53,9 +52,9 @@ resume W at Tail = tail W at
 resume W at Idle = idle W at
 resume W at End = ended W
 
-unfoldable pub writing_of : Worker → At → After → Popped → Told
-writing_of W at after Nothing = resume W at after
-writing_of W at after (Is w) =
+unfoldable pub writing_of : Worker → At → After → Option Write → Told
+writing_of W at after None = resume W at after
+writing_of W at after (Some w) =
     tell (worker (with_progress W.head (with_writing W.head.progress after w.tag)) (with_queue W.board (rest W.board.queue))) (reply.write w.tag w.value) []
 
 -- Rule 8: the first write that waits is asked for; an empty write queue ends the writing

@@ -11,7 +11,6 @@ use descriptions::ask_descriptions;
 use engine::{Engine, with_cycle, with_progress, with_stats};
 use heads::progress::{After, Phase, with_round, with_writing};
 use heads::stats::{read_stats, tail_stats};
-use queue::Popped;
 use replies::losing::{ended, phased};
 use replies::reply::{Reply, Said};
 use rounds::round::cycle_tags;
@@ -21,8 +20,10 @@ use writes::request::put_asked;
 pub fn polls(e: Engine) -> Said
     ensures { (B : Board) → Quietly (polls (worker e B)) result B }
 {
-    let r = Reply::listed(Reply::GO_ON, 0);
-    Said { reply: r, head: e }
+    Said {
+        reply: Reply::listed(Reply::GO_ON, 0),
+        head: e,
+    }
 }
 
 // The rest of the tick is waited for.
@@ -30,8 +31,7 @@ fn waiting(e: Engine, clock: f64, wall: i64) -> Said
     ensures { (B : Board) → Quietly (waiting (worker e B) (at clock wall)) result B }
 {
     let p = e.progress;
-    let r = Reply::wait(p.tick - (clock - p.start));
-    phased(e, Phase::Wait, r)
+    phased(e, Phase::Wait, Reply::wait(p.tick - (clock - p.start)))
 }
 
 // The wait between rounds ends within 0.0001 s of its tick.
@@ -51,8 +51,7 @@ fn tail(e: Engine, clock: f64, wall: i64) -> Said
 {
     let p = e.progress;
     let elapsed = clock - p.start;
-    let stats = tail_stats(e.stats, elapsed, p.tick, wall);
-    let next = with_stats(e, stats);
+    let next = with_stats(e, tail_stats(e.stats, elapsed, p.tick, wall));
     if elapsed <= p.tick {
         return idle(next, clock, wall);
     }
@@ -83,16 +82,12 @@ pub fn writing(
     requires { IsBoard board.old }
     ensures { Done (writing (worker e (board_in board.old)) (at clock wall) after) result board.new out.old out.new }
 {
-    let Popped::Is(w) = pop_write(board) else {
+    let Some(w) = pop_write(board) else {
         return resume(board, out, e, clock, wall, after);
     };
-    let value = w.value;
-    let r = Reply::write(w.tag, value);
-    let progress = with_writing(e.progress, after, w.tag);
-    let head = with_progress(e, progress);
     Said {
-        reply: r,
-        head: head,
+        reply: Reply::write(w.tag, w.value),
+        head: with_progress(e, with_writing(e.progress, after, w.tag)),
     }
 }
 
@@ -101,10 +96,8 @@ pub fn checking(board: &mut [u8], out: &mut [u8], e: Engine, clock: f64, wall: i
     requires { IsBoard board.old }
     ensures { Done (checking (worker e (board_in board.old)) (at clock wall)) result board.new out.old out.new }
 {
-    let p = e.progress;
-    if p.boundary {
-        let r = Reply::listed(Reply::VERSION, 0);
-        return phased(e, Phase::Version, r);
+    if e.progress.boundary {
+        return phased(e, Phase::Version, Reply::listed(Reply::VERSION, 0));
     }
     writing(board, out, e, clock, wall, After::Tail)
 }
@@ -115,15 +108,17 @@ pub fn reading(board: &mut [u8], out: &mut [u8], e: Engine, clock: f64, wall: i6
     ensures { Done (reading (worker e (board_in board.old)) (at clock wall)) result board.new out.old out.new }
 {
     let tags = asked_count(board);
-    let stats = read_stats(e.stats, tags as u64);
-    let next = with_stats(e, stats);
+    let next = with_stats(e, read_stats(e.stats, tags as u64));
     ask_descriptions(board);
     if asked_count(board) == 0 {
         return checking(board, out, next, clock, wall);
     }
     let n = put_asked(board, out);
-    let r = Reply::listed(Reply::DESCRIBE, n as u64);
-    phased(next, Phase::Describe, r)
+    phased(
+        next,
+        Phase::Describe,
+        Reply::listed(Reply::DESCRIBE, n as u64),
+    )
 }
 
 // A round at the clock reading.
@@ -133,14 +128,12 @@ fn polled(board: &mut [u8], out: &mut [u8], e: Engine, clock: f64, wall: i64) ->
 {
     let w = cycle_tags(board, e.options, e.cycle, clock);
     let progress = with_round(e.progress, clock, w.tick, w.boundary);
-    let cycled = with_cycle(e, w.cycle);
-    let next = with_progress(cycled, progress);
+    let next = with_progress(with_cycle(e, w.cycle), progress);
     if asked_count(board) == 0 {
         return reading(board, out, next, clock, wall);
     }
     let n = put_asked(board, out);
-    let r = Reply::listed(Reply::READ, n as u64);
-    phased(next, Phase::Read, r)
+    phased(next, Phase::Read, Reply::listed(Reply::READ, n as u64))
 }
 
 // The next round, unless a stop was asked for; then the writes that wait still go out.
@@ -148,8 +141,7 @@ fn poll(board: &mut [u8], out: &mut [u8], e: Engine, clock: f64, wall: i64) -> S
     requires { IsBoard board.old }
     ensures { Done (poll (worker e (board_in board.old)) (at clock wall)) result board.new out.old out.new }
 {
-    let link = e.link;
-    if link.stopping {
+    if e.link.stopping {
         return writing(board, out, e, clock, wall, After::End);
     }
     polled(board, out, e, clock, wall)
@@ -160,13 +152,11 @@ pub fn finish(board: &mut [u8], out: &mut [u8], s: Said, clock: f64, wall: i64) 
     requires { IsBoard board.old }
     ensures { Goes s (at clock wall) board.old result board.new out.old out.new }
 {
-    let said = s.reply;
-    if said.kind != Reply::GO_ON {
+    if s.reply.kind != Reply::GO_ON {
         return s;
     }
     let t = poll(board, out, s.head, clock, wall);
-    let again = t.reply;
-    if again.kind != Reply::GO_ON {
+    if t.reply.kind != Reply::GO_ON {
         return t;
     }
     waiting(t.head, clock, wall)

@@ -19,26 +19,14 @@ use table::tag::Description;
 fn is_unknown(d: Description) -> bool
     ensures { result ≡ is_unknown d }
 {
-    match d {
-        Description::Unknown => true,
-        Description::Nothing => false,
-        Description::Is(_) => false,
-    }
+    matches!(d, Description::Unknown)
 }
 
 // A description that the host has set wins, so there is no need to ask.
 fn is_asked(t: &[u8], k: usize) -> bool
     ensures { result ≡ is_asked (get_or (table_in t.now) k fresh_tag) }
 {
-    if !wants_of(t, k) {
-        return false;
-    }
-    let s = settings_of(t, k);
-    if s.described {
-        return false;
-    }
-    let d = description_of(t, k);
-    is_unknown(d)
+    wants_of(t, k) && !settings_of(t, k).described && is_unknown(description_of(t, k))
 }
 
 // The descriptions that are wanted are asked for, by tag number.
@@ -48,12 +36,10 @@ fn ask_wanted(b: &mut [u8])
 {
     clear_asked(b);
     let n = tags_in(b);
-    let mut k: usize = 0;
-    while k < n {
+    for k in 0..n {
         if is_asked(table_of(b), k) {
             push_asked(b, k as u16);
         }
-        k += 1;
     }
 }
 
@@ -61,13 +47,10 @@ fn ask_wanted(b: &mut [u8])
 fn use_up_in(t: &mut [u8])
     ensures { table_in t.new ≡ map unwanted (table_in t.old) }
 {
-    let n = t.len() / 256;
-    let mut k: usize = 0;
-    while k < n {
+    for k in 0..t.len() / 256 {
         if wants_of(t, k) {
             put_wants(t, k, false);
         }
-        k += 1;
     }
 }
 
@@ -108,25 +91,18 @@ pub fn learn(b: &mut [u8], found: &[u8])
     let most = found.len() / 8;
     let listed = asked_count(b);
     let n = if listed < most { listed } else { most };
-    let mut i: usize = 0;
-    while i < n {
-        let k = asked_at(b, i);
-        let d = found_at(found, i);
-        put_description(b, k, d);
-        i += 1;
+    for i in 0..n {
+        put_description(b, asked_at(b, i), found_at(found, i));
     }
 }
 
-// The answer failed: the tags asked for are known to have none, so they are not asked for again.
+// The answer failed: the tags asked for are known to have none, so they are not asked for again. One function for this
+// and `learn` would take what is found as a closure, with a clause on its calls, to share a loop of one line.
 pub fn learn_none(b: &mut [u8])
     requires { IsBoard b.old }
     ensures { Holds b.new (with_records (board_in b.old) (learnt_none (board_in b.old).asked (board_in b.old).table.tags)) }
 {
-    let n = asked_count(b);
-    let mut i: usize = 0;
-    while i < n {
-        let k = asked_at(b, i);
-        put_description(b, k, Description::Nothing);
-        i += 1;
+    for i in 0..asked_count(b) {
+        put_description(b, asked_at(b, i), Description::Nothing);
     }
 }

@@ -1,5 +1,5 @@
 -- The starred lines of document 01's 'Cases at the edges', with the answers that it gives.
-use Rattle.std.specs.Prelude.{Bool, true, false, ◌&&◌, cond, List, [], ◌∷◌, ℕ, suc, eqb, pos, Float, length}
+use Rattle.std.specs.Prelude.{Bool, true, false, ◌&&◌, cond, List, [], ◌∷◌, ℕ, suc, eqb, pos, Float, length, None}
 use Rattle.std.specs.Float.{binary64}
 use Rattle.std.specs.Float.Ieee.{round}
 use Rattle.ieee.specs.Round.{slices_of}
@@ -9,7 +9,6 @@ use Rattle.values.specs.Entry.{same_entry}
 use Rattle.values.specs.Deadband.{within_deadband}
 use Rattle.values.specs.declared.value.Value.{Value}
 use Rattle.values.specs.declared.value.Value.TheVariants.{Int as I, Float as F}
-use Rattle.values.specs.declared.error.Error.TheVariants.{None}
 use Rattle.values.specs.declared.entry.Quality.TheVariants.{Good}
 use Rattle.values.specs.declared.entry.Entry.{Entry}
 

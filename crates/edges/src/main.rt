@@ -1,88 +1,97 @@
 // Document 01's cases at the edges, run through the code: each line has the case and what came out.
 #![tactic(auto)]
 
-use std::io;
+use std::{fmt, io};
 use values::entry::{Entry, Quality};
-use values::error::Error;
 use values::value::Value;
 
 fn answer(yes: bool) -> &'static str {
     if yes { "yes" } else { "no" }
 }
 
-fn slices(rt: &impl Print, name: &str, period: f64, cycle: f64) -> io::Result<()> {
-    println!(rt; "{name}: {}", ieee::round::slices(period, cycle))
-}
-
-fn good(v: Value) -> Entry {
+fn good(value: Value) -> Entry {
     Entry {
-        value: v,
+        value,
         quality: Quality::Good,
         t: 0,
-        error: Error::None,
+        error: None,
     }
 }
 
-fn outcome(band: f64, published: Value, read: Value) -> &'static str {
+// What becomes of a good reading.
+#[derive(Clone, Copy)]
+enum Outcome {
+    Same,
+    Withheld,
+    Sent,
+}
+
+impl fmt::Display for Outcome {
+    fn fmt<W: fmt::Write>(&self, f: &mut fmt::Formatter<W>) -> fmt::Result {
+        f.write_str(match self {
+            Outcome::Same => "same",
+            Outcome::Withheld => "withheld",
+            Outcome::Sent => "sent",
+        })
+    }
+}
+
+fn outcome_of(band: f64, published: Value, read: Value) -> Outcome {
     let a = good(published);
     let b = good(read);
     if values::entry::same(a, b) {
-        "same"
+        Outcome::Same
     } else if values::deadband::within_deadband(band, a, b) {
-        "withheld"
+        Outcome::Withheld
     } else {
-        "sent"
+        Outcome::Sent
     }
 }
 
-fn reading(
-    rt: &impl Print,
-    name: &str,
-    band: f64,
-    published: Value,
-    read: Value,
-) -> io::Result<()> {
-    println!(rt; "{name}: {}", outcome(band, published, read))
+// The starred cases: their names and what is tried.
+fn slices(rt: &impl Print) -> io::Result<()> {
+    let cases = [
+        ("30, 1", 30.0, 1.0),
+        ("2.5, 1", 2.5, 1.0),
+        ("3.5, 1", 3.5, 1.0),
+        ("0.4, 1", 0.4, 1.0),
+        ("5, 0", 5.0, 0.0),
+    ];
+    for (name, period, cycle) in cases {
+        println!(rt; "S of {name}: {}", ieee::round::slices(period, cycle))?;
+    }
+    Ok(())
 }
 
-fn starred(rt: &impl Print) -> io::Result<()> {
-    slices(rt, "S of 30, 1", 30.0, 1.0)?;
-    slices(rt, "S of 2.5, 1", 2.5, 1.0)?;
-    slices(rt, "S of 3.5, 1", 3.5, 1.0)?;
-    slices(rt, "S of 0.4, 1", 0.4, 1.0)?;
-    slices(rt, "S of 5, 0", 5.0, 0.0)?;
+fn bands(rt: &impl Print) -> io::Result<()> {
     let ten = Value::Float(10.0);
-    reading(
-        rt,
-        "band 0.5, 10.0 then 10.25",
-        0.5,
-        ten,
-        Value::Float(10.25),
-    )?;
-    reading(rt, "band 0.5, 10.0 then 10.5", 0.5, ten, Value::Float(10.5))?;
-    reading(
-        rt,
-        "band 0, integer 1 then float 1.0",
-        0.0,
-        Value::Int(1),
-        Value::Float(1.0),
-    )?;
-    reading(
-        rt,
-        "band 0, 0.0 then -0.0",
-        0.0,
-        Value::Float(0.0),
-        Value::Float(-0.0),
-    )?;
     let large = Value::Int(9007199254740992);
-    let next = Value::Int(9007199254740993);
-    reading(
-        rt,
-        "band 1, 9007199254740992 then 9007199254740993",
-        1.0,
-        large,
-        next,
-    )
+    let cases = [
+        ("0.5, 10.0 then 10.25", 0.5, ten, Value::Float(10.25)),
+        ("0.5, 10.0 then 10.5", 0.5, ten, Value::Float(10.5)),
+        (
+            "0, integer 1 then float 1.0",
+            0.0,
+            Value::Int(1),
+            Value::Float(1.0),
+        ),
+        (
+            "0, 0.0 then -0.0",
+            0.0,
+            Value::Float(0.0),
+            Value::Float(-0.0),
+        ),
+        (
+            "1, 9007199254740992 then 9007199254740993",
+            1.0,
+            large,
+            Value::Int(9007199254740993),
+        ),
+    ];
+    for (name, band, published, read) in cases {
+        println!(rt; "band {name}: {}", outcome_of(band, published, read))?;
+    }
+    Ok(())
 }
 
 fn unstarred(rt: &impl Print) -> io::Result<()> {
@@ -92,13 +101,15 @@ fn unstarred(rt: &impl Print) -> io::Result<()> {
     )?;
     // A tag found missing in a round that started at 5.0 is marked for 10 s.
     let mark = 5.0 + 10.0;
-    let early = answer(ieee::times::is_held_back(mark, 14.5));
-    println!(rt; "missing at start 5.0, dropped at 14.5: {early}")?;
-    let late = answer(ieee::times::is_held_back(mark, 15.0));
-    println!(rt; "missing at start 5.0, dropped at 15.0: {late}")
+    for clock in [14.5, 15.0] {
+        let held = answer(ieee::times::is_held_back(mark, clock));
+        println!(rt; "missing at start 5.0, dropped at {clock:.1}: {held}")?;
+    }
+    Ok(())
 }
 
 fn main(rt: HostRuntime) -> io::Result<()> {
-    starred(&rt)?;
+    slices(&rt)?;
+    bands(&rt)?;
     unstarred(&rt)
 }

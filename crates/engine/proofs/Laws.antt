@@ -14,23 +14,17 @@ use Rattle.memory.specs.Cells.{rows_in, no_row}
 use Rattle.memory.proofs.RowLaws.{length_rows, rows_kept, row_long, spread, spread_is}
 use Rattle.heads.specs.declared.options.Options.{Options}
 use Rattle.heads.specs.declared.cycle.Cycle.{Cycle}
+use Rattle.words.specs.Time.{time_from}
 use Rattle.heads.specs.Link.{link_from}
 use Rattle.heads.specs.Progress.{progress_from}
 use Rattle.heads.specs.Stats.{stats_from}
 use Rattle.engine.specs.Engine.{options_from, cycle_from, engine_from, engine_in, stored, with_clock, backoff_at}
 use Rattle.engine.specs.declared.Engine.{Engine}
 
-pub options_coded : (x : Options) (cycle period grace : ℕ)
-    → of_bits binary64 cycle ≡ x.cycle → of_bits binary64 period ≡ x.period → of_bits binary64 grace ≡ x.grace
-    → options_from cycle period grace ≡ x
-options_coded x cycle period grace e1 e2 e3 = rw (e1, e2, e3)
-
-pub cycle_coded : (x : Cycle) (begun last : ℕ) → ltb 0 begun ≡ x.begun → of_bits binary64 last ≡ x.last → cycle_from begun last x.index ≡ x
-cycle_coded x begun last e1 e2 = rw (e1, e2)
-
 pub engine_coded : (x : Engine)
     (length period grace begun last index clock count state stopping known number attempt phase after start tick boundary tag timed ms ts tags overruns reconnects reloads : ℕ)
-    → options_from length period grace ≡ x.options → cycle_from begun last index ≡ x.cycle → of_bits binary64 clock ≡ x.clock → count % 65536 ≡ x.count
+    → of_bits binary64 length ≡ x.options.cycle → of_bits binary64 period ≡ x.options.period → of_bits binary64 grace ≡ x.options.grace
+    → time_from begun last ≡ x.cycle.last → index ≡ x.cycle.index → of_bits binary64 clock ≡ x.clock → count % 65536 ≡ x.count
     → link_from state stopping known number attempt ≡ x.link
     → progress_from phase after start tick boundary tag ≡ x.progress
     → stats_from timed ms ts tags overruns reconnects reloads ≡ x.stats
@@ -39,8 +33,8 @@ pub engine_coded : (x : Engine)
     ∷ timed ∷ ms ∷ ts ∷ tags ∷ overruns ∷ reconnects ∷ reloads ∷ 0 ∷ 0 ∷ 0 ∷ 0 ∷ 0 ∷ 0 ∷ []
     ) ≡ x
 unfolding engine_from
-engine_coded x length period grace begun last index clock count state stopping known number attempt phase after start tick boundary tag timed ms ts tags overruns reconnects reloads e1 e2 e3 e4 e5 e6 e7 =
-    rw (e1, e2, e3, e4, e5, e6, e7)
+engine_coded x length period grace begun last index clock count state stopping known number attempt phase after start tick boundary tag timed ms ts tags overruns reconnects reloads e1 e2 e3 e4 e5 e6 e7 e8 e9 e10 =
+    rw (e1, e2, e3, e4, e5, e6, e7, e8, e9, e10)
 
 engine_at : (bs : List ℕ) → engine_in bs ≡ engine_from (get_or (rows_in bs) 0 no_row)
 unfolding engine_in

@@ -1,9 +1,10 @@
 -- The head of an engine, and its constants.
-use Rattle.std.specs.Prelude.{false, cond, List, [], ◌∷◌, ℕ, ◌/◌, ◌%◌, min, ltb, Float, length, get_or}
+use Rattle.std.specs.Prelude.{false, cond, List, [], ◌∷◌, ℕ, ◌/◌, ◌%◌, min, ltb, Float, length, get_or, None}
 use Rattle.std.specs.Float.{binary64}
 use Rattle.std.specs.Float.Ieee.{of_bits, add}
 use Rattle.ieee.specs.Round.{float}
 use Rattle.memory.specs.Cells.{rows_in, no_row}
+use Rattle.words.specs.Time.{time_from}
 use Rattle.heads.specs.declared.options.Options.{Options}
 use Rattle.heads.specs.declared.cycle.Cycle.{Cycle}
 use Rattle.heads.specs.Link.{fresh_link, link_from}
@@ -26,7 +27,7 @@ retry_at start = add binary64 start (float 10)
 abbrev pub fresh_engine : Options → ℕ → Engine
 fresh_engine options count = record {
   options = options;
-  cycle = record { begun = false; last = of_bits binary64 0; index = 0 };
+  cycle = record { last = None; index = 0 };
   clock = of_bits binary64 0;
   count = count;
   link = fresh_link;
@@ -53,7 +54,7 @@ abbrev pub options_from : ℕ → ℕ → ℕ → Options
 options_from cycle period grace = record { cycle = of_bits binary64 cycle; period = of_bits binary64 period; grace = of_bits binary64 grace }
 
 abbrev pub cycle_from : ℕ → ℕ → ℕ → Cycle
-cycle_from begun last index = record { begun = ltb 0 begun; last = of_bits binary64 last; index = index }
+cycle_from begun last index = record { last = time_from begun last; index = index }
 
 -- the head that a row holds
 unfoldable pub engine_from : List ℕ → Engine

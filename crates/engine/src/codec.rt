@@ -11,44 +11,25 @@ use heads::link::{Link, link_from, link_words};
 use heads::options::Options;
 use heads::progress::{Progress, progress_from, progress_words};
 use heads::stats::{Stats, stats_from, stats_words};
-use words::scalar::{float_of_word, word_of_flag, word_of_float};
-
-// The options and the cycle in words.
-#[derive(Clone, Copy)]
-struct OptionsWords {
-    cycle: u64,
-    period: u64,
-    grace: u64,
-}
-
-#[derive(Clone, Copy)]
-struct CycleWords {
-    begun: u64,
-    last: u64,
-    index: u64,
-}
+use words::scalar::{float_of_word, word_of_float};
+use words::time::{time_from, time_words};
 
 // Each part of the head from its cells of the row.
 fn options_in(w: [u64; 32]) -> Options
     ensures { result ≡ options_from (get_or w 0 0) (get_or w 1 0) (get_or w 2 0) }
 {
-    let cycle = float_of_word(w[0]);
-    let period = float_of_word(w[1]);
-    let grace = float_of_word(w[2]);
     Options {
-        cycle: cycle,
-        period: period,
-        grace: grace,
+        cycle: float_of_word(w[0]),
+        period: float_of_word(w[1]),
+        grace: float_of_word(w[2]),
     }
 }
 
 fn cycle_in(w: [u64; 32]) -> Cycle
     ensures { result ≡ cycle_from (get_or w 3 0) (get_or w 4 0) (get_or w 5 0) }
 {
-    let last = float_of_word(w[4]);
     Cycle {
-        begun: 0 < w[3],
-        last: last,
+        last: time_from(w[3], w[4]),
         index: w[5],
     }
 }
@@ -74,65 +55,32 @@ fn stats_in(w: [u64; 32]) -> Stats
 pub fn engine_from(w: [u64; 32]) -> Engine
     ensures { result ≡ engine_from w }
 {
-    let options = options_in(w);
-    let cycle = cycle_in(w);
-    let clock = float_of_word(w[6]);
-    let link = link_in(w);
-    let progress = progress_in(w);
-    let stats = stats_in(w);
     Engine {
-        options: options,
-        cycle: cycle,
-        clock: clock,
+        options: options_in(w),
+        cycle: cycle_in(w),
+        clock: float_of_word(w[6]),
         count: (w[7] % 65536) as u16,
-        link: link,
-        progress: progress,
-        stats: stats,
-    }
-}
-
-fn options_words(x: Options) -> OptionsWords
-    ensures { options_from result.cycle result.period result.grace ≡ x }
-{
-    let cycle = word_of_float(x.cycle);
-    let period = word_of_float(x.period);
-    let grace = word_of_float(x.grace);
-    OptionsWords {
-        cycle: cycle,
-        period: period,
-        grace: grace,
-    }
-}
-
-fn cycle_words(x: Cycle) -> CycleWords
-    ensures { cycle_from result.begun result.last result.index ≡ x }
-{
-    let begun = word_of_flag(x.begun);
-    let last = word_of_float(x.last);
-    CycleWords {
-        begun: begun,
-        last: last,
-        index: x.index,
+        link: link_in(w),
+        progress: progress_in(w),
+        stats: stats_in(w),
     }
 }
 
 pub fn engine_words(x: Engine) -> [u64; 32]
     ensures { engine_from result ≡ x }
 {
-    let options = options_words(x.options);
-    let cycle = cycle_words(x.cycle);
-    let clock = word_of_float(x.clock);
+    let last = time_words(x.cycle.last);
     let link = link_words(x.link);
     let progress = progress_words(x.progress);
     let stats = stats_words(x.stats);
     [
-        options.cycle,
-        options.period,
-        options.grace,
-        cycle.begun,
-        cycle.last,
-        cycle.index,
-        clock,
+        word_of_float(x.options.cycle),
+        word_of_float(x.options.period),
+        word_of_float(x.options.grace),
+        last.known,
+        last.word,
+        x.cycle.index,
+        word_of_float(x.clock),
         x.count as u64,
         link.state,
         link.stopping,

@@ -33,22 +33,17 @@ impl Engine {
     pub fn fresh(options: Options, count: u16) -> Engine
         ensures { result ≡ fresh_engine options count }
     {
-        let cycle = Cycle {
-            begun: false,
-            last: 0.0,
-            index: 0,
-        };
-        let link = Link::fresh();
-        let progress = Progress::fresh();
-        let stats = Stats::fresh();
         Engine {
-            options: options,
-            cycle: cycle,
+            options,
+            cycle: Cycle {
+                last: None,
+                index: 0,
+            },
             clock: 0.0,
-            count: count,
-            link: link,
-            progress: progress,
-            stats: stats,
+            count,
+            link: Link::fresh(),
+            progress: Progress::fresh(),
+            stats: Stats::fresh(),
         }
     }
 
@@ -56,11 +51,10 @@ impl Engine {
     pub fn backoff(attempt: u64) -> f64
         ensures { result ≡ backoff_at attempt }
     {
-        let waits = Engine::BACKOFF;
         if attempt < 3 {
-            waits[attempt as usize]
+            Engine::BACKOFF[attempt as usize]
         } else {
-            waits[3]
+            Engine::BACKOFF[3]
         }
     }
 
@@ -75,114 +69,50 @@ impl Engine {
 pub fn with_link(e: Engine, link: Link) -> Engine
     ensures { result ≡ with_link e link }
 {
-    let options = e.options;
-    let cycle = e.cycle;
-    let progress = e.progress;
-    let stats = e.stats;
-    Engine {
-        options: options,
-        cycle: cycle,
-        clock: e.clock,
-        count: e.count,
-        link: link,
-        progress: progress,
-        stats: stats,
-    }
+    Engine { link, ..e }
 }
 
 pub fn with_progress(e: Engine, progress: Progress) -> Engine
     ensures { result ≡ with_progress e progress }
 {
-    let options = e.options;
-    let cycle = e.cycle;
-    let link = e.link;
-    let stats = e.stats;
-    Engine {
-        options: options,
-        cycle: cycle,
-        clock: e.clock,
-        count: e.count,
-        link: link,
-        progress: progress,
-        stats: stats,
-    }
+    Engine { progress, ..e }
 }
 
 pub fn with_stats(e: Engine, stats: Stats) -> Engine
     ensures { result ≡ with_stats e stats }
 {
-    let options = e.options;
-    let cycle = e.cycle;
-    let link = e.link;
-    let progress = e.progress;
-    Engine {
-        options: options,
-        cycle: cycle,
-        clock: e.clock,
-        count: e.count,
-        link: link,
-        progress: progress,
-        stats: stats,
-    }
+    Engine { stats, ..e }
 }
 
 pub fn with_cycle(e: Engine, cycle: Cycle) -> Engine
     ensures { result ≡ with_cycle e cycle }
 {
-    let options = e.options;
-    let link = e.link;
-    let progress = e.progress;
-    let stats = e.stats;
-    Engine {
-        options: options,
-        cycle: cycle,
-        clock: e.clock,
-        count: e.count,
-        link: link,
-        progress: progress,
-        stats: stats,
-    }
+    Engine { cycle, ..e }
 }
 
 pub fn with_clock(e: Engine, clock: f64) -> Engine
     ensures { result ≡ with_clock e clock }
 {
-    let options = e.options;
-    let cycle = e.cycle;
-    let link = e.link;
-    let progress = e.progress;
-    let stats = e.stats;
-    Engine {
-        options: options,
-        cycle: cycle,
-        clock: clock,
-        count: e.count,
-        link: link,
-        progress: progress,
-        stats: stats,
-    }
+    Engine { clock, ..e }
 }
 
 // The head that a row holds.
 pub fn load(s: &[u8]) -> Engine
     ensures { result ≡ engine_in s.now }
 {
-    let w = memory::rows::row(s, 0);
-    codec::engine_from(w)
+    codec::engine_from(memory::rows::row(s, 0))
 }
 
 // The head put in the first row; where there is none nothing happens.
 pub fn store(s: &mut [u8], x: Engine)
     ensures { engine_in s.new ≡ stored s.old x }
 {
-    let w = codec::engine_words(x);
-    memory::rows::put_row(s, 0, w);
+    memory::rows::put_row(s, 0, codec::engine_words(x));
 }
 
 // The clock reading alone: a call that changes nothing else of the head need not store it whole.
 pub fn put_clock(s: &mut [u8], clock: f64)
     ensures { engine_in s.new ≡ stored s.old (with_clock (engine_in s.old) clock) }
 {
-    let time = words::scalar::word_of_float(clock);
-    memory::rows::put_row_cell(s, 0, 6, time);
+    memory::rows::put_row_cell(s, 0, 6, words::scalar::word_of_float(clock));
 }

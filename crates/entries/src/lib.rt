@@ -9,7 +9,7 @@ ghost use Rattle.table.specs.Row.{entry_words_at, with_entry_words};
 ghost use Rattle.table.specs.Table.{table_in, with_cached, with_published, without_readings};
 
 use memory::rows::{put_row_cell, row_cell};
-use values::entry::{Entry, Held};
+use values::entry::Entry;
 use words::entry::{EntryWords, entry_words, held_from};
 
 // The first cells of the two entries in a row.
@@ -22,19 +22,13 @@ fn words_at(t: &[u8], k: usize, first: usize) -> EntryWords
     requires { first < 27 }
     ensures { result ≡ entry_words_at (get_or (rows_in t.now) k no_row) first }
 {
-    let held = row_cell(t, k, first);
-    let kind = row_cell(t, k, first + 1);
-    let word = row_cell(t, k, first + 2);
-    let time = row_cell(t, k, first + 3);
-    let error = row_cell(t, k, first + 4);
-    let message = row_cell(t, k, first + 5);
     EntryWords {
-        held: held,
-        kind: kind,
-        word: word,
-        t: time,
-        error: error,
-        message: message,
+        held: row_cell(t, k, first),
+        kind: row_cell(t, k, first + 1),
+        word: row_cell(t, k, first + 2),
+        t: row_cell(t, k, first + 3),
+        error: row_cell(t, k, first + 4),
+        message: row_cell(t, k, first + 5),
     }
 }
 
@@ -45,18 +39,16 @@ pub fn cached_words(t: &[u8], k: usize) -> EntryWords
     words_at(t, k, CACHED)
 }
 
-pub fn cached_of(t: &[u8], k: usize) -> Held
+pub fn cached_of(t: &[u8], k: usize) -> Option<Entry>
     ensures { result ≡ (get_or (table_in t.now) k fresh_tag).cached }
 {
-    let w = cached_words(t, k);
-    held_from(w)
+    held_from(cached_words(t, k))
 }
 
-pub fn published_of(t: &[u8], k: usize) -> Held
+pub fn published_of(t: &[u8], k: usize) -> Option<Entry>
     ensures { result ≡ (get_or (table_in t.now) k fresh_tag).published }
 {
-    let w = words_at(t, k, PUBLISHED);
-    held_from(w)
+    held_from(words_at(t, k, PUBLISHED))
 }
 
 fn put_words(t: &mut [u8], k: usize, first: usize, w: EntryWords)
@@ -74,25 +66,21 @@ fn put_words(t: &mut [u8], k: usize, first: usize, w: EntryWords)
 pub fn put_cached(t: &mut [u8], k: usize, e: Entry)
     ensures { table_in t.new ≡ set (table_in t.old) k (with_cached (get_or (table_in t.old) k fresh_tag) e) }
 {
-    let w = entry_words(e);
-    put_words(t, k, CACHED, w);
+    put_words(t, k, CACHED, entry_words(e));
 }
 
 pub fn put_published(t: &mut [u8], k: usize, e: Entry)
     ensures { table_in t.new ≡ set (table_in t.old) k (with_published (get_or (table_in t.old) k fresh_tag) e) }
 {
-    let w = entry_words(e);
-    put_words(t, k, PUBLISHED, w);
+    put_words(t, k, PUBLISHED, entry_words(e));
 }
 
-// Last reading time, missing mark and both entries are forgotten. A 0 in its first cell is no entry.
+// Last reading time, missing mark and both entries are forgotten. A 0 in its first cell is none of each.
 pub fn forget(t: &mut [u8], k: usize)
     ensures { table_in t.new ≡ set (table_in t.old) k (without_readings (get_or (table_in t.old) k fresh_tag)) }
 {
     put_row_cell(t, k, 4, 0);
-    put_row_cell(t, k, 5, 0);
     put_row_cell(t, k, 6, 0);
-    put_row_cell(t, k, 7, 0);
     put_row_cell(t, k, CACHED, 0);
     put_row_cell(t, k, PUBLISHED, 0);
 }

@@ -6,9 +6,12 @@ ghost use Rattle.table.specs.Tag.{fresh_tag};
 ghost use Rattle.table.specs.Table.{table_in, with_last, with_mark, with_added, with_wants, with_description, with_after, with_standing, without_last};
 
 use memory::rows::{put_row_cell, row_cell};
-use table::codec::{description_from, description_word, grace_from, settings_from, timing_from};
+use table::codec::{
+    description_from, description_word, grace_from, grace_words, settings_from, timing_from,
+};
 use table::tag::{Description, Grace, Settings, Timing};
 use words::scalar::{word_of_flag, word_of_float};
+use words::time::time_words;
 
 pub fn tier_of(t: &[u8], k: usize) -> u8
     ensures { result ≡ (get_or (table_in t.now) k fresh_tag).tier }
@@ -16,23 +19,21 @@ pub fn tier_of(t: &[u8], k: usize) -> u8
     (row_cell(t, k, 0) % 256) as u8
 }
 
-pub fn grace_of(t: &[u8], k: usize) -> Grace
+pub fn grace_of(t: &[u8], k: usize) -> Option<Grace>
     ensures { result ≡ (get_or (table_in t.now) k fresh_tag).grace }
 {
-    let on = row_cell(t, k, 1);
-    let deadline = row_cell(t, k, 2);
-    let after = row_cell(t, k, 3);
-    grace_from(on, deadline, after)
+    grace_from(row_cell(t, k, 1), row_cell(t, k, 2), row_cell(t, k, 3))
 }
 
 pub fn timing_of(t: &[u8], k: usize) -> Timing
     ensures { result ≡ (get_or (table_in t.now) k fresh_tag).timing }
 {
-    let read = row_cell(t, k, 4);
-    let last = row_cell(t, k, 5);
-    let missing = row_cell(t, k, 6);
-    let retry = row_cell(t, k, 7);
-    timing_from(read, last, missing, retry)
+    timing_from(
+        row_cell(t, k, 4),
+        row_cell(t, k, 5),
+        row_cell(t, k, 6),
+        row_cell(t, k, 7),
+    )
 }
 
 pub fn added_of(t: &[u8], k: usize) -> bool
@@ -50,78 +51,71 @@ pub fn wants_of(t: &[u8], k: usize) -> bool
 pub fn description_of(t: &[u8], k: usize) -> Description
     ensures { result ≡ (get_or (table_in t.now) k fresh_tag).description }
 {
-    let n = row_cell(t, k, 10);
-    description_from(n)
+    description_from(row_cell(t, k, 10))
 }
 
 pub fn settings_of(t: &[u8], k: usize) -> Settings
     ensures { result ≡ (get_or (table_in t.now) k fresh_tag).settings }
 {
-    let band = row_cell(t, k, 11);
-    let grouped = row_cell(t, k, 12);
-    let group = row_cell(t, k, 13);
-    let rate = row_cell(t, k, 14);
-    let described = row_cell(t, k, 15);
-    settings_from(band, grouped, group, rate, described)
+    settings_from(
+        row_cell(t, k, 11),
+        row_cell(t, k, 12),
+        row_cell(t, k, 13),
+        row_cell(t, k, 14),
+        row_cell(t, k, 15),
+    )
 }
 
 // The last reading time set.
 pub fn put_last(t: &mut [u8], k: usize, clock: f64)
     ensures { table_in t.new ≡ set (table_in t.old) k (with_last (get_or (table_in t.old) k fresh_tag) clock) }
 {
-    let last = word_of_float(clock);
     put_row_cell(t, k, 4, 1);
-    put_row_cell(t, k, 5, last);
+    put_row_cell(t, k, 5, word_of_float(clock));
 }
 
 // The missing mark set with its retry time, or cleared.
-pub fn put_mark(t: &mut [u8], k: usize, missing: bool, retry: f64)
-    ensures { table_in t.new ≡ set (table_in t.old) k (with_mark (get_or (table_in t.old) k fresh_tag) missing retry) }
+pub fn put_mark(t: &mut [u8], k: usize, retry: Option<f64>)
+    ensures { table_in t.new ≡ set (table_in t.old) k (with_mark (get_or (table_in t.old) k fresh_tag) retry) }
 {
-    let flag = word_of_flag(missing);
-    let time = word_of_float(retry);
-    put_row_cell(t, k, 6, flag);
-    put_row_cell(t, k, 7, time);
+    let w = time_words(retry);
+    put_row_cell(t, k, 6, w.known);
+    put_row_cell(t, k, 7, w.word);
 }
 
 // Whether the tag is new in tier 2.
 pub fn put_added(t: &mut [u8], k: usize, added: bool)
     ensures { table_in t.new ≡ set (table_in t.old) k (with_added (get_or (table_in t.old) k fresh_tag) added) }
 {
-    let flag = word_of_flag(added);
-    put_row_cell(t, k, 8, flag);
+    put_row_cell(t, k, 8, word_of_flag(added));
 }
 
 // Whether the tag's description is to be asked for.
 pub fn put_wants(t: &mut [u8], k: usize, wants: bool)
     ensures { table_in t.new ≡ set (table_in t.old) k (with_wants (get_or (table_in t.old) k fresh_tag) wants) }
 {
-    let flag = word_of_flag(wants);
-    put_row_cell(t, k, 9, flag);
+    put_row_cell(t, k, 9, word_of_flag(wants));
 }
 
 // What is known of the tag's description.
 pub fn put_description(t: &mut [u8], k: usize, d: Description)
     ensures { table_in t.new ≡ set (table_in t.old) k (with_description (get_or (table_in t.old) k fresh_tag) d) }
 {
-    let n = description_word(d);
-    put_row_cell(t, k, 10, n);
+    put_row_cell(t, k, 10, description_word(d));
 }
 
 // Tier and grace, whether the tag is new in tier 2, and whether its description is wanted.
-pub fn put_standing(t: &mut [u8], k: usize, tier: u8, g: Grace, added: bool, wants: bool)
+pub fn put_standing(t: &mut [u8], k: usize, tier: u8, g: Option<Grace>, added: bool, wants: bool)
     ensures { table_in t.new ≡ set (table_in t.old) k (with_standing (get_or (table_in t.old) k fresh_tag) tier g added wants) }
 {
-    let on = word_of_flag(g.on);
-    let deadline = word_of_float(g.deadline);
+    let w = grace_words(g);
     let new = word_of_flag(added);
-    let wanted = word_of_flag(wants);
     put_row_cell(t, k, 0, tier as u64);
-    put_row_cell(t, k, 1, on);
-    put_row_cell(t, k, 2, deadline);
-    put_row_cell(t, k, 3, g.after as u64);
+    put_row_cell(t, k, 1, w.on);
+    put_row_cell(t, k, 2, w.deadline);
+    put_row_cell(t, k, 3, w.after);
     put_row_cell(t, k, 8, new);
-    put_row_cell(t, k, 9, wanted);
+    put_row_cell(t, k, 9, word_of_flag(wants));
 }
 
 // The last reading time is forgotten.
@@ -129,13 +123,11 @@ pub fn forget_last(t: &mut [u8], k: usize)
     ensures { table_in t.new ≡ set (table_in t.old) k (without_last (get_or (table_in t.old) k fresh_tag)) }
 {
     put_row_cell(t, k, 4, 0);
-    put_row_cell(t, k, 5, 0);
 }
 
-// The tag is in grace, and a tier follows it.
+// A tag in grace: another tier follows it.
 pub fn put_after(t: &mut [u8], k: usize, after: u8)
     ensures { table_in t.new ≡ set (table_in t.old) k (with_after (get_or (table_in t.old) k fresh_tag) after) }
 {
-    put_row_cell(t, k, 1, 1);
     put_row_cell(t, k, 3, after as u64);
 }

@@ -1,3 +1,4 @@
 -- What the functions on frames answer.
 pub mod Numbers
 pub mod Compare
+pub mod Calls

@@ -1,104 +1,104 @@
 // What a call answered, compared with what was recorded.
 use crate::compare::{parting, unlike};
-use crate::numbers::eight;
-use crate::parts::list_at;
+use crate::parts::{Malformed, Reader};
+use std::fmt;
 
 // Every byte of a lent list before its call.
 pub const BEFORE: u8 = 0xa5;
 
-// What a call answered: `n` numbers, with 0 behind them; and where the recorded answer stands in its frame.
+// The number or the byte of the lent list that differs, what it is, and what was recorded.
 #[derive(Clone, Copy)]
-pub struct Answered {
-    pub at: usize,
-    pub n: usize,
-    pub numbers: [u64; 11],
-}
-
-// Nothing: no answer stands at the frame's end, so the frame is found malformed.
-pub fn no_answer(frame: &[u8]) -> Answered {
-    Answered {
-        at: frame.len(),
-        n: 0,
-        numbers: [0; 11],
-    }
-}
-
-// The bytes compared; or the number or the byte of the lent list that differs, what it is, and what was recorded.
-#[derive(Clone, Copy)]
-pub enum Found {
-    Same(usize),
-    Cell(usize, u64, u64),
-    Listed(usize, u8, u8),
+pub enum Difference {
+    Cell {
+        index: usize,
+        is: u64,
+        recorded: u64,
+    },
+    Byte {
+        index: usize,
+        is: u8,
+        recorded: u8,
+    },
     Malformed,
 }
 
-fn byte(s: &[u8], i: usize, beyond: u8) -> u8 {
-    if i < s.len() {
-        return s[i];
+impl From<Malformed> for Difference {
+    fn from(_: Malformed) -> Difference {
+        Difference::Malformed
     }
-    beyond
 }
 
-fn compare_numbers(numbers: &[u64], n: usize, recorded: &[u8]) -> Found {
-    if numbers.len() < n {
-        return Found::Malformed;
-    }
-    let mut k: usize = 0;
-    while k < n {
-        if recorded.len() / 8 <= k {
-            return Found::Malformed;
+impl fmt::Display for Difference {
+    fn fmt<W: fmt::Write>(&self, f: &mut fmt::Formatter<W>) -> fmt::Result {
+        match self {
+            Difference::Cell {
+                index,
+                is,
+                recorded,
+            } => write!(f, "cell {index} is {is}, recorded {recorded}"),
+            Difference::Byte {
+                index,
+                is,
+                recorded,
+            } => write!(f, "list byte {index} is {is}, recorded {recorded}"),
+            Difference::Malformed => write!(f, "the frame is malformed"),
         }
-        let cell = eight(recorded, 8 * k);
-        if numbers[k] != cell {
-            return Found::Cell(k, numbers[k], cell);
+    }
+}
+
+fn compare_numbers(numbers: &[u64], recorded: &[u8]) -> Result<(), Difference> {
+    let (cells, _) = recorded.as_chunks::<8>();
+    for (index, (is, cell)) in numbers.iter().zip(cells).enumerate() {
+        let recorded = u64::from_le_bytes(*cell);
+        if *is != recorded {
+            return Err(Difference::Cell {
+                index,
+                is: *is,
+                recorded,
+            });
         }
-        k += 1;
     }
-    if recorded.len() / 8 != k {
-        return Found::Malformed;
+    if cells.len() == numbers.len() {
+        Ok(())
+    } else {
+        Err(Difference::Malformed)
     }
-    Found::Same(recorded.len())
+}
+
+fn byte(out: &[u8], index: usize, recorded: u8) -> Difference {
+    let is = out.get(index).copied().unwrap_or(BEFORE);
+    Difference::Byte {
+        index,
+        is,
+        recorded,
+    }
 }
 
 // What was recorded stands at the front; behind it all is as before.
-fn compare_list(out: &[u8], recorded: &[u8]) -> Found {
+fn compare_list(out: &[u8], recorded: &[u8]) -> Result<(), Difference> {
     let n = recorded.len();
     let i = parting(recorded, out);
     if i < n {
-        return Found::Listed(i, byte(out, i, BEFORE), byte(recorded, i, BEFORE));
+        return Err(byte(out, i, recorded[i]));
     }
-    if out.len() < n {
-        return Found::Malformed;
-    }
-    let behind = &out[n..];
+    let behind = out.get(n..).ok_or(Malformed)?;
     let j = unlike(behind, BEFORE);
     if j < behind.len() {
-        return Found::Listed(n + j, byte(behind, j, BEFORE), BEFORE);
+        return Err(byte(out, n + j, BEFORE));
     }
-    Found::Same(out.len())
+    Ok(())
 }
 
-// The numbers are compared first, then the lent list.
-pub fn compare(frame: &[u8], at: usize, numbers: &[u64], n: usize, out: &[u8]) -> Found {
-    let answer = list_at(frame, at);
-    let from = answer.from;
-    let end = answer.end;
-    let list = list_at(frame, end);
-    let list_from = list.from;
-    let list_end = list.end;
-    if !list.whole {
-        return Found::Malformed;
+// What a call answered, its numbers and its lent list, held to what its frame has next: how many bytes were compared.
+// The numbers are compared first, then the list.
+pub fn compare(numbers: &[u64], out: &[u8], frame: Reader) -> Result<usize, Difference> {
+    let mut frame = frame;
+    let answer = frame.list()?;
+    let list = frame.list()?;
+    if !frame.rest.is_empty() {
+        return Err(Difference::Malformed);
     }
-    if list_end != frame.len() {
-        return Found::Malformed;
-    }
-    let first = compare_numbers(numbers, n, &frame[from..end]);
-    let Found::Same(m) = first else {
-        return first;
-    };
-    let second = compare_list(out, &frame[list_from..list_end]);
-    let Found::Same(l) = second else {
-        return second;
-    };
-    Found::Same(m % 0x1_0000 + l % 0x1_0000)
+    compare_numbers(numbers, answer)?;
+    compare_list(out, list)?;
+    Ok(answer.len() + out.len())
 }

@@ -6,40 +6,22 @@ ghost use Rattle.frames.specs.Compare.{parting, unlike};
 pub fn parting(a: &[u8], b: &[u8]) -> usize
     ensures { result ≡ parting 0 a.now b.now }
 {
-    let mut i: usize = 0;
-    while i < a.len() {
-        if b.len() <= i {
-            return i;
-        }
-        if a[i] != b[i] {
-            return i;
-        }
-        i += 1;
-    }
-    i
+    a.iter()
+        .zip(b)
+        .position(|(x, y)| *x != *y)
+        .unwrap_or(a.len().min(b.len()))
 }
 
 // The first place that has another byte than b, or the end.
 pub fn unlike(s: &[u8], b: u8) -> usize
     ensures { result ≡ unlike 0 s.now b }
 {
-    let mut i: usize = 0;
-    while i < s.len() {
-        if s[i] != b {
-            return i;
-        }
-        i += 1;
-    }
-    i
+    s.iter().position(|x| *x != b).unwrap_or(s.len())
 }
 
 // All of s becomes b.
 pub fn fill(s: &mut [u8], b: u8)
     ensures { s.new ≡ replicate (length s.old) b }
 {
-    let mut i: usize = 0;
-    while i < s.len() {
-        s[i] = b;
-        i += 1;
-    }
+    s.fill(b);
 }

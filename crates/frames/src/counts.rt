@@ -1,10 +1,9 @@
 // How far a replay has come.
+use crate::calls::Call;
+use std::fmt;
 
-// A creation begins a history.
-const CREATE: u8 = 1;
-
-// How far the replay has come; `here` counts the calls of the history.
-#[derive(Clone, Copy)]
+// `here` counts the calls of the history. The greatest number stands for all above it.
+#[derive(Clone, Copy, Default)]
 pub struct Counts {
     pub histories: u64,
     pub calls: u64,
@@ -12,48 +11,33 @@ pub struct Counts {
     pub bytes: u64,
 }
 
-// The greatest number stands for all above it.
-fn plus(a: u64, b: u64) -> u64 {
-    if u64::MAX - a < b {
-        return u64::MAX;
-    }
-    a + b
-}
-
 impl Counts {
-    pub fn new() -> Counts {
+    // One call more, or a frame that names none; a creation begins a history.
+    pub fn next(self, call: Option<Call>) -> Counts {
+        let begins = call == Some(Call::Create);
         Counts {
-            histories: 0,
-            calls: 0,
-            here: 0,
-            bytes: 0,
-        }
-    }
-
-    // One call more; a creation begins a history.
-    pub fn next(self, op: u8) -> Counts {
-        if op == CREATE {
-            return Counts {
-                histories: plus(self.histories, 1),
-                calls: plus(self.calls, 1),
-                here: 1,
-                bytes: self.bytes,
-            };
-        }
-        Counts {
-            histories: self.histories,
-            calls: plus(self.calls, 1),
-            here: plus(self.here, 1),
-            bytes: self.bytes,
+            histories: self.histories.saturating_add(u64::from(begins)),
+            calls: self.calls.saturating_add(1),
+            here: if begins {
+                1
+            } else {
+                self.here.saturating_add(1)
+            },
+            ..self
         }
     }
 
     pub fn compared(self, n: usize) -> Counts {
         Counts {
-            histories: self.histories,
-            calls: self.calls,
-            here: self.here,
-            bytes: plus(self.bytes, n as u64),
+            bytes: self.bytes.saturating_add(n as u64),
+            ..self
         }
+    }
+}
+
+// The place that the replay has come to.
+impl fmt::Display for Counts {
+    fn fmt<W: fmt::Write>(&self, f: &mut fmt::Formatter<W>) -> fmt::Result {
+        write!(f, "history {}, call {}", self.histories, self.here)
     }
 }

@@ -1,40 +1,24 @@
 // Numbers at any place of a frame, the low byte first.
-ghost use Rattle.std.specs.Prelude.{◌≡◌, ◌<◌, ◌%◌};
+ghost use Rattle.std.specs.Prelude.{◌≡◌, ◌+◌, ◌≤◌, ◌<◌, length, take, drop, MatchOption};
 ghost use Rattle.frames.specs.Numbers.{four_at, eight_at};
 
-fn wide(x: u8) -> usize
-    ensures { (result ≡ x % 256) × (result < 256) }
+// The N bytes at a place; none where the slice ends before they do.
+fn bytes_at<const N: usize>(s: &[u8], at: usize) -> Option<&[u8; N]>
+    ensures { MatchOption result (length s.now < at + N) (λ b. (at + N ≤ length s.now) × (b.now ≡ take N (drop at s.now))) }
 {
-    x as usize
+    s.get(at..)?.first_chunk()
 }
 
 // The number of four bytes at a place.
 pub fn four(s: &[u8], at: usize) -> usize
     ensures { (result ≡ four_at s.now at) × (result < 0x1_0000_0000) }
 {
-    if s.len() < 4 {
-        return 0;
-    }
-    if s.len() - 4 < at {
-        return 0;
-    }
-    wide(s[at])
-        + wide(s[at + 1]) * 0x100
-        + wide(s[at + 2]) * 0x1_0000
-        + wide(s[at + 3]) * 0x100_0000
+    bytes_at(s, at).map_or(0, |b| u32::from_le_bytes(*b) as usize)
 }
 
 // The number of eight bytes at a place.
 pub fn eight(s: &[u8], at: usize) -> u64
     ensures { result ≡ eight_at s.now at }
 {
-    if s.len() < 8 {
-        return 0;
-    }
-    if s.len() - 8 < at {
-        return 0;
-    }
-    let low = four(s, at);
-    let high = four(s, at + 4);
-    low as u64 + high as u64 * 0x1_0000_0000
+    bytes_at(s, at).map_or(0, |b| u64::from_le_bytes(*b))
 }

@@ -1,74 +1,49 @@
 // What is written.
-use crate::answer::Found;
+use crate::answer::Difference;
+use crate::calls::Call;
 use crate::counts::Counts;
-use std::io;
+use std::fmt;
 
-pub fn text(rt: &impl Print, s: &[u8]) -> io::Result<()> {
-    rt.write_all(s)
+// How a replay ends.
+#[derive(Clone, Copy)]
+pub enum Ending {
+    // All that was recorded has been replayed.
+    Done,
+    // No call is named where the frame's number is that of none.
+    Differs {
+        call: Option<Call>,
+        difference: Difference,
+    },
+    Cut,
+    Uneven,
 }
 
-pub fn done(rt: &impl Print, c: Counts) -> io::Result<()> {
-    println!(rt;
-        "{} histories, {} calls, {} bytes of answers, all as recorded",
-        c.histories, c.calls, c.bytes,
-    )
+// How the replay ended, and how far it had come.
+#[derive(Clone, Copy)]
+pub struct Report {
+    pub counts: Counts,
+    pub ending: Ending,
 }
 
-fn call_name(op: u8) -> &'static str {
-    match op {
-        1 => "create",
-        2 => "set_tier",
-        3 => "load",
-        4 => "write",
-        5 => "stop",
-        6 => "step",
-        _ => look_name(op),
-    }
-}
-
-fn look_name(op: u8) -> &'static str {
-    match op {
-        7 => "state",
-        8 => "stats",
-        9 => "tier_counts",
-        10 => "group_stats",
-        11 => "table",
-        12 => "panel",
-        13 => "tag",
-        _ => "no operation",
-    }
-}
-
-// The place that the replay has come to.
-pub fn place(rt: &impl Print, c: Counts) -> io::Result<()> {
-    print!(rt; "history {}, call {}", c.histories, c.here)
-}
-
-fn which(rt: &impl Print, what: &str, i: usize, is: u64, recorded: u64) -> io::Result<()> {
-    print!(rt; ": {what} {i} is {is}, recorded {recorded}")
-}
-
-pub fn differs(rt: &impl Print, c: Counts, op: u8, f: Found) -> io::Result<()> {
-    place(rt, c)?;
-    print!(rt; ", {}", call_name(op))?;
-    match f {
-        Found::Cell(k, is, recorded) => which(rt, "cell", k, is, recorded)?,
-        Found::Listed(i, is, recorded) => {
-            which(rt, "list byte", i, u64::from(is), u64::from(recorded))?;
+impl fmt::Display for Report {
+    fn fmt<W: fmt::Write>(&self, f: &mut fmt::Formatter<W>) -> fmt::Result {
+        let at = self.counts;
+        match self.ending {
+            Ending::Done => write!(
+                f,
+                "{} histories, {} calls, {} bytes of answers, all as recorded",
+                at.histories, at.calls, at.bytes,
+            ),
+            Ending::Differs {
+                call: Some(call),
+                difference,
+            } => write!(f, "{at}, {call}: {difference}"),
+            Ending::Differs {
+                call: None,
+                difference,
+            } => write!(f, "{at}, no operation: {difference}"),
+            Ending::Cut => write!(f, "no whole frame behind {at}"),
+            Ending::Uneven => write!(f, "not the end that was recorded, behind {at}"),
         }
-        _ => text(rt, b": the frame is malformed")?,
     }
-    text(rt, b"\n")
-}
-
-pub fn cut(rt: &impl Print, c: Counts) -> io::Result<()> {
-    text(rt, b"no whole frame behind ")?;
-    place(rt, c)?;
-    text(rt, b"\n")
-}
-
-pub fn uneven(rt: &impl Print, c: Counts) -> io::Result<()> {
-    text(rt, b"not the end that was recorded, behind ")?;
-    place(rt, c)?;
-    text(rt, b"\n")
 }

@@ -17,10 +17,8 @@ use versions::check::take_all;
 fn zero(s: &mut [u8])
     ensures { s.new ≡ replicate (length s.old) 0 }
 {
-    let mut i: usize = 0;
-    while i < s.len() {
+    for i in 0..s.len() {
         s[i] = 0;
-        i += 1;
     }
 }
 

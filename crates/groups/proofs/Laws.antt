@@ -3,16 +3,14 @@ use mathlib.Core.Path.{◌≡◌, refl, ap, sym, ◌∙◌}
 use mathlib.Core.List.{List, [], ◌∷◌, ◌++◌, append_assoc}
 use Prim.Native.Nat.{ℕ, suc, ◌+◌, ◌*◌, ◌/◌, ◌%◌, ◌≤◌, ◌<◌}
 use native.Mathlib.Omega.{arith}
-use lib.Dec.{ltb}
-use lib.Ieee.{binary64, of_bits}
 use lib.ListN.{length, get_or, set, take, drop, length-drop, take-append-drop, get_or-append, get_or-eq_default}
 use lib.Seq.{sets, sets-eq, drop-drop, get_or-drop, length-take-le, set_out}
 use Rattle.memory.specs.Blocks.{blocks}
 use Rattle.memory.specs.Cells.{cells_in}
 use Rattle.memory.proofs.BlockLaws.{length-blocks, blocks_at, blocks_put}
 use Rattle.memory.proofs.CellLaws.{length_cells}
-use Rattle.tags.specs.Lists.{list_in, room}
-use Rattle.groups.specs.Groups.{fresh_group, group_from, groups_in, Groups, grouped}
+use Rattle.words.specs.Time.{time_from}
+use Rattle.groups.specs.Groups.{fresh_group, group_from, groups_in}
 use Rattle.groups.specs.declared.group.Group.{Group}
 
 pub length-groups : (bs : List ℕ) → length (groups_in bs) ≡ length bs / 64
@@ -82,10 +80,7 @@ group_kept bs g x h = sym (set_out (groups_in bs) g x (omega (arith, length-grou
 
 -- cells that hold a group's parts hold the group
 pub group_coded : (x : Group) (read again rate last before : ℕ)
-    → ltb 0 read ≡ x.read → ltb 0 again ≡ x.again → rate % 0x1_0000_0000 ≡ x.rate → of_bits binary64 last ≡ x.last → of_bits binary64 before ≡ x.before
+    → rate % 0x1_0000_0000 ≡ x.rate → time_from read last ≡ x.last → time_from again before ≡ x.before
     → group_from (read ∷ again ∷ rate ∷ last ∷ before ∷ []) ≡ x
 unfolding group_from
-group_coded x read again rate last before a b c d e = rw (a, b, c, d, e)
-
-pub grouped_is : (G : Groups) (s recorded : List ℕ) → groups_in s ≡ G.groups → list_in recorded ≡ G.recorded → room recorded ≡ G.recorded_room → grouped s recorded ≡ G
-grouped_is G s recorded a b c = rw (a, b, c)
+group_coded x read again rate last before a b c = rw (a, b, c)

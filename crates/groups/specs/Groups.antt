@@ -1,23 +1,20 @@
 -- Rules 6 and 10: what is recorded of each group as its tags are listed.
-use Rattle.std.specs.Prelude.{Bool, true, false, cond, List, ℕ, ◌/◌, ◌%◌, ltb, Float, length, get_or, set}
-use Rattle.std.specs.Float.{binary64}
-use Rattle.std.specs.Float.Ieee.{of_bits}
+use Rattle.std.specs.Prelude.{Bool, cond, List, ℕ, ◌/◌, ◌%◌, Float, length, get_or, set, Some, None}
 use Rattle.memory.specs.Blocks.{blocks}
 use Rattle.memory.specs.Cells.{cells_in}
+use Rattle.words.specs.Time.{time_from}
 use Rattle.tags.specs.Lists.{list_in, room, pushed, member}
 use Rattle.groups.specs.declared.group.Group.{Group}
 
 abbrev pub fresh_group : Group
-fresh_group = record { read = false; again = false; rate = 0; last = of_bits binary64 0; before = of_bits binary64 0 }
+fresh_group = record { rate = 0; last = None; before = None }
 
 -- the group that the first five of its eight cells hold; the other three are spare
 unfoldable pub group_from : List ℕ → Group
 group_from ws = record {
-  read = ltb 0 (get_or ws 0 0);
-  again = ltb 0 (get_or ws 1 0);
   rate = get_or ws 2 0 % 0x1_0000_0000;
-  last = of_bits binary64 (get_or ws 3 0);
-  before = of_bits binary64 (get_or ws 4 0);
+  last = time_from (get_or ws 0 0) (get_or ws 3 0);
+  before = time_from (get_or ws 1 0) (get_or ws 4 0);
 }
 
 -- the groups that lent memory holds, one for each whole 64 bytes
@@ -36,8 +33,7 @@ grouped s recorded = record { groups = groups_in s; recorded = list_in recorded;
 -- Rule 10: a group's rate is the last recorded. Its period is between the last two rounds that had a tag of it, so its times move on with the first tag of a round.
 unfoldable pub group_read : Group → ℕ → Float → Bool → Group
 group_read x rate at first =
-    cond first (record { read = true; again = x.read; rate = rate; last = at; before = x.last })
-    (record { read = x.read; again = x.again; rate = rate; last = x.last; before = x.before })
+    cond first (record { rate = rate; last = Some at; before = x.last }) (record { rate = rate; last = x.last; before = x.before })
 
 -- Rule 10: recorded groups stand in the order of their first reading.
 unfoldable pub noted : Groups → ℕ → ℕ → Float → Bool → Groups

@@ -20,9 +20,6 @@ use Rattle.heads.specs.declared.progress.Phase.TheVariants.{Begin, Connect, Open
 use Rattle.heads.specs.declared.progress.Progress.{Progress}
 use Rattle.heads.specs.declared.stats.Stats.{Stats}
 
-pub float_back : (w : ℕ) (x : Float) → T (fits binary64 x) → w ≡ to_bits binary64 x → of_bits binary64 w ≡ x
-float_back w x fit e = ap (of_bits binary64) e ∙ of_bits-to_bits binary64 x fit
-
 pub state_coded : (s : State) → state_from (state_number s) ≡ s
 state_coded Connecting = refl
 state_coded Connected = refl
@@ -73,8 +70,3 @@ pub progress_coded : (x : Progress) (phase after start tick boundary tag : ℕ)
     → progress_from phase after start tick boundary tag ≡ x
 progress_coded x phase after start tick boundary tag e1 e2 e3 e4 e5 e6 =
     rw (ap phase_from e1 ∙ phase_coded x.phase, ap after_from e2 ∙ after_coded x.after, e3, e4, e5, e6)
-
-pub stats_coded : (x : Stats) (timed ms ts : ℕ)
-    → ltb 0 timed ≡ x.timed → of_bits binary64 ms ≡ x.ms → to_z w64 ts ≡ x.ts
-    → stats_from timed ms ts x.tags x.overruns x.reconnects x.reloads ≡ x
-stats_coded x timed ms ts e1 e2 e3 = rw (e1, e2, e3)

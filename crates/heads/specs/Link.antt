@@ -1,14 +1,12 @@
 -- Rule 9: the connection.
-use Rattle.std.specs.Prelude.{Bool, true, false, cond, ℕ, eqb, ltb}
+use Rattle.std.specs.Prelude.{Bool, true, false, cond, ℕ, eqb, ltb, Option, None}
 use Rattle.heads.specs.Version.{version_from}
-use Rattle.heads.specs.declared.version.Version.{Version}
-use Rattle.heads.specs.declared.version.Version.TheVariants.{Null}
 use Rattle.heads.specs.declared.link.State.{State}
 use Rattle.heads.specs.declared.link.State.TheVariants.{Connecting, Connected, Disconnected, Stopped}
 use Rattle.heads.specs.declared.link.Link.{Link}
 
 abbrev pub fresh_link : Link
-fresh_link = record { state = Connecting; stopping = false; version = Null; attempt = 0 }
+fresh_link = record { state = Connecting; stopping = false; version = None; attempt = 0 }
 
 abbrev pub state_from : ℕ → State
 state_from n = cond (eqb n 0) Connecting (cond (eqb n 1) Connected (cond (eqb n 2) Disconnected Stopped))
@@ -28,7 +26,7 @@ with_state x s = record { state = s; stopping = x.stopping; version = x.version;
 abbrev pub with_attempt : Link → ℕ → Link
 with_attempt x n = record { state = x.state; stopping = x.stopping; version = x.version; attempt = n }
 
-abbrev pub with_version : Link → Version → Link
+abbrev pub with_version : Link → Option ℕ → Link
 with_version x v = record { state = x.state; stopping = x.stopping; version = v; attempt = x.attempt }
 
 -- a stop asked for

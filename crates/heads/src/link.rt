@@ -2,7 +2,7 @@
 ghost use Rattle.std.specs.Prelude.{◌≡◌};
 ghost use Rattle.heads.specs.Link.{fresh_link, state_from, state_number, with_state, with_attempt, with_version, stopped, is_state, link_from};
 
-use super::version::{Version, version_from, version_words};
+use super::version::{version_from, version_words};
 use words::scalar::word_of_flag;
 
 // What the host is told. Stopped is not told; it comes with the end.
@@ -19,7 +19,7 @@ pub enum State {
 pub struct Link {
     pub state: State,
     pub stopping: bool,
-    pub version: Version,
+    pub version: Option<u64>,
     pub attempt: u64,
 }
 
@@ -40,7 +40,7 @@ impl Link {
         Link {
             state: State::Connecting,
             stopping: false,
-            version: Version::Null,
+            version: None,
             attempt: 0,
         }
     }
@@ -71,87 +71,57 @@ pub fn state_number(s: State) -> u64
 pub fn is_state(x: Link, s: State) -> bool
     ensures { result ≡ is_state x s }
 {
-    let state = x.state;
-    state_number(state) == state_number(s)
+    state_number(x.state) == state_number(s)
 }
 
 pub fn with_state(x: Link, s: State) -> Link
     ensures { result ≡ with_state x s }
 {
-    let version = x.version;
-    Link {
-        state: s,
-        stopping: x.stopping,
-        version: version,
-        attempt: x.attempt,
-    }
+    Link { state: s, ..x }
 }
 
 pub fn with_attempt(x: Link, attempt: u64) -> Link
     ensures { result ≡ with_attempt x attempt }
 {
-    let state = x.state;
-    let version = x.version;
-    Link {
-        state: state,
-        stopping: x.stopping,
-        version: version,
-        attempt: attempt,
-    }
+    Link { attempt, ..x }
 }
 
-pub fn with_version(x: Link, version: Version) -> Link
+pub fn with_version(x: Link, version: Option<u64>) -> Link
     ensures { result ≡ with_version x version }
 {
-    let state = x.state;
-    Link {
-        state: state,
-        stopping: x.stopping,
-        version: version,
-        attempt: x.attempt,
-    }
+    Link { version, ..x }
 }
 
 // A stop asked for.
 pub fn stopped(x: Link) -> Link
     ensures { result ≡ stopped x }
 {
-    let state = x.state;
-    let version = x.version;
     Link {
-        state: state,
         stopping: true,
-        version: version,
-        attempt: x.attempt,
+        ..x
     }
 }
 
 pub fn link_from(state: u64, stopping: u64, known: u64, number: u64, attempt: u64) -> Link
     ensures { result ≡ link_from state stopping known number attempt }
 {
-    let s = state_from(state);
-    let version = version_from(known, number);
     Link {
-        state: s,
+        state: state_from(state),
         stopping: 0 < stopping,
-        version: version,
-        attempt: attempt,
+        version: version_from(known, number),
+        attempt,
     }
 }
 
 pub fn link_words(x: Link) -> LinkWords
     ensures { link_from result.state result.stopping result.known result.number result.attempt ≡ x }
 {
-    let state = x.state;
-    let version = x.version;
-    let s = state_number(state);
-    let stopping = word_of_flag(x.stopping);
-    let v = version_words(version);
+    let version = version_words(x.version);
     LinkWords {
-        state: s,
-        stopping: stopping,
-        known: v.known,
-        number: v.number,
+        state: state_number(x.state),
+        stopping: word_of_flag(x.stopping),
+        known: version.known,
+        number: version.number,
         attempt: x.attempt,
     }
 }

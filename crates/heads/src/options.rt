@@ -14,16 +14,13 @@ pub struct Options {
 fn is_cycle(x: f64) -> bool
     ensures { result ≡ cycle_ok x }
 {
-    if x == 0.0 {
-        return true;
-    }
-    if x >= 0.001 { x <= 3600.0 } else { false }
+    x == 0.0 || (x >= 0.001 && x <= 3600.0)
 }
 
 fn is_span(x: f64) -> bool
     ensures { result ≡ span_ok x }
 {
-    if x >= 0.0 { x <= 86400.0 } else { false }
+    x >= 0.0 && x <= 86400.0
 }
 
 // 0, or the number of the check that refuses.

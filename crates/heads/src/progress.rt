@@ -166,15 +166,7 @@ pub fn after_number(a: After) -> u64
 pub fn with_phase(x: Progress, phase: Phase) -> Progress
     ensures { result ≡ with_phase x phase }
 {
-    let after = x.after;
-    Progress {
-        phase: phase,
-        after: after,
-        start: x.start,
-        tick: x.tick,
-        boundary: x.boundary,
-        tag: x.tag,
-    }
+    Progress { phase, ..x }
 }
 
 // A write of the tag is asked for.
@@ -183,11 +175,9 @@ pub fn with_writing(x: Progress, after: After, tag: u16) -> Progress
 {
     Progress {
         phase: Phase::Write,
-        after: after,
-        start: x.start,
-        tick: x.tick,
-        boundary: x.boundary,
-        tag: tag,
+        after,
+        tag,
+        ..x
     }
 }
 
@@ -195,15 +185,11 @@ pub fn with_writing(x: Progress, after: After, tag: u16) -> Progress
 pub fn with_round(x: Progress, start: f64, tick: f64, boundary: bool) -> Progress
     ensures { result ≡ with_round x start tick boundary }
 {
-    let phase = x.phase;
-    let after = x.after;
     Progress {
-        phase: phase,
-        after: after,
-        start: start,
-        tick: tick,
-        boundary: boundary,
-        tag: x.tag,
+        start,
+        tick,
+        boundary,
+        ..x
     }
 }
 
@@ -217,15 +203,11 @@ pub fn progress_from(
 ) -> Progress
     ensures { result ≡ progress_from phase after start tick boundary tag }
 {
-    let p = phase_from(phase);
-    let a = after_from(after);
-    let s = float_of_word(start);
-    let t = float_of_word(tick);
     Progress {
-        phase: p,
-        after: a,
-        start: s,
-        tick: t,
+        phase: phase_from(phase),
+        after: after_from(after),
+        start: float_of_word(start),
+        tick: float_of_word(tick),
         boundary: 0 < boundary,
         tag: (tag % 65536) as u16,
     }
@@ -234,19 +216,12 @@ pub fn progress_from(
 pub fn progress_words(x: Progress) -> ProgressWords
     ensures { progress_from result.phase result.after result.start result.tick result.boundary result.tag ≡ x }
 {
-    let phase = x.phase;
-    let after = x.after;
-    let p = phase_number(phase);
-    let a = after_number(after);
-    let start = word_of_float(x.start);
-    let tick = word_of_float(x.tick);
-    let boundary = word_of_flag(x.boundary);
     ProgressWords {
-        phase: p,
-        after: a,
-        start: start,
-        tick: tick,
-        boundary: boundary,
+        phase: phase_number(x.phase),
+        after: after_number(x.after),
+        start: word_of_float(x.start),
+        tick: word_of_float(x.tick),
+        boundary: word_of_flag(x.boundary),
         tag: x.tag as u64,
     }
 }

@@ -1,23 +1,27 @@
 // Rule 10: the statistics of the rounds.
 ghost use Rattle.std.specs.Prelude.{◌≡◌};
-ghost use Rattle.heads.specs.Stats.{fresh_stats, counted, read_stats, tail_stats, reconnected, reloaded, stats_from};
+ghost use Rattle.heads.specs.Stats.{fresh_stats, counted, read_stats, tail_stats, reconnected, reloaded, round_time_from, stats_from};
 
-use words::scalar::{float_of_word, int_of_word, word_of_flag, word_of_float, word_of_int};
+use words::scalar::{float_of_word, int_of_word, word_of_float, word_of_int};
 
-// `ms` is the last round's time, if one has ended (`timed`), `ts` its wall time, `tags` how many tags the last
-// round asked for.
+// How many milliseconds a round took, and the wall time at its end.
 #[derive(Clone, Copy)]
-pub struct Stats {
-    pub timed: bool,
+pub struct RoundTime {
     pub ms: f64,
     pub ts: i64,
+}
+
+// `last` is of the last round, if one has ended, `tags` how many tags the last round asked for.
+#[derive(Clone, Copy)]
+pub struct Stats {
+    pub last: Option<RoundTime>,
     pub tags: u64,
     pub overruns: u64,
     pub reconnects: u64,
     pub reloads: u64,
 }
 
-// The same in words, as the head's row has it.
+// The same in words, as the head's row has it; timed: 0 where no round has ended.
 #[derive(Clone, Copy)]
 pub struct StatsWords {
     pub timed: u64,
@@ -29,14 +33,19 @@ pub struct StatsWords {
     pub reloads: u64,
 }
 
+#[derive(Clone, Copy)]
+struct RoundTimeWords {
+    timed: u64,
+    ms: u64,
+    ts: u64,
+}
+
 impl Stats {
     pub fn fresh() -> Stats
         ensures { result ≡ fresh_stats }
     {
         Stats {
-            timed: false,
-            ms: 0.0,
-            ts: 0,
+            last: None,
             tags: 0,
             overruns: 0,
             reconnects: 0,
@@ -59,65 +68,72 @@ pub fn more(n: u64) -> u64
 pub fn read_stats(x: Stats, tags: u64) -> Stats
     ensures { result ≡ read_stats x tags }
 {
-    Stats {
-        timed: x.timed,
-        ms: x.ms,
-        ts: x.ts,
-        tags: tags,
-        overruns: x.overruns,
-        reconnects: x.reconnects,
-        reloads: x.reloads,
-    }
+    Stats { tags, ..x }
 }
 
 // A round has ended, `elapsed` seconds after its start.
 pub fn tail_stats(x: Stats, elapsed: f64, tick: f64, t: i64) -> Stats
     ensures { result ≡ tail_stats x elapsed tick t }
 {
-    let ms = ieee::round::round1(elapsed * 1000.0);
     let overruns = if elapsed > tick {
         more(x.overruns)
     } else {
         x.overruns
     };
     Stats {
-        timed: true,
-        ms: ms,
-        ts: t,
-        tags: x.tags,
-        overruns: overruns,
-        reconnects: x.reconnects,
-        reloads: x.reloads,
+        last: Some(RoundTime {
+            ms: ieee::round::round1(elapsed * 1000.0),
+            ts: t,
+        }),
+        overruns,
+        ..x
     }
 }
 
 pub fn reconnected(x: Stats) -> Stats
     ensures { result ≡ reconnected x }
 {
-    let n = more(x.reconnects);
     Stats {
-        timed: x.timed,
-        ms: x.ms,
-        ts: x.ts,
-        tags: x.tags,
-        overruns: x.overruns,
-        reconnects: n,
-        reloads: x.reloads,
+        reconnects: more(x.reconnects),
+        ..x
     }
 }
 
 pub fn reloaded(x: Stats) -> Stats
     ensures { result ≡ reloaded x }
 {
-    let n = more(x.reloads);
     Stats {
-        timed: x.timed,
-        ms: x.ms,
-        ts: x.ts,
-        tags: x.tags,
-        overruns: x.overruns,
-        reconnects: x.reconnects,
-        reloads: n,
+        reloads: more(x.reloads),
+        ..x
+    }
+}
+
+fn round_time_from(timed: u64, ms: u64, ts: u64) -> Option<RoundTime>
+    ensures { result ≡ round_time_from timed ms ts }
+{
+    if timed == 0 {
+        return None;
+    }
+    Some(RoundTime {
+        ms: float_of_word(ms),
+        ts: int_of_word(ts),
+    })
+}
+
+fn round_time_words(x: Option<RoundTime>) -> RoundTimeWords
+    ensures { round_time_from result.timed result.ms result.ts ≡ x }
+{
+    match x {
+        None => RoundTimeWords {
+            timed: 0,
+            ms: 0,
+            ts: 0,
+        },
+        Some(r) => RoundTimeWords {
+            timed: 1,
+            ms: word_of_float(r.ms),
+            ts: word_of_int(r.ts),
+        },
     }
 }
 
@@ -132,29 +148,23 @@ pub fn stats_from(
 ) -> Stats
     ensures { result ≡ stats_from timed ms ts tags overruns reconnects reloads }
 {
-    let m = float_of_word(ms);
-    let t = int_of_word(ts);
     Stats {
-        timed: 0 < timed,
-        ms: m,
-        ts: t,
-        tags: tags,
-        overruns: overruns,
-        reconnects: reconnects,
-        reloads: reloads,
+        last: round_time_from(timed, ms, ts),
+        tags,
+        overruns,
+        reconnects,
+        reloads,
     }
 }
 
 pub fn stats_words(x: Stats) -> StatsWords
     ensures { stats_from result.timed result.ms result.ts result.tags result.overruns result.reconnects result.reloads ≡ x }
 {
-    let timed = word_of_flag(x.timed);
-    let ms = word_of_float(x.ms);
-    let ts = word_of_int(x.ts);
+    let last = round_time_words(x.last);
     StatsWords {
-        timed: timed,
-        ms: ms,
-        ts: ts,
+        timed: last.timed,
+        ms: last.ms,
+        ts: last.ts,
         tags: x.tags,
         overruns: x.overruns,
         reconnects: x.reconnects,

@@ -1,15 +1,8 @@
-// The version of a controller's tag table.
+// The version of a controller's tag table: none where the controller has none, or none is known yet.
 ghost use Rattle.std.specs.Prelude.{◌≡◌};
 ghost use Rattle.heads.specs.Version.{is_null, is_changed, is_reloaded, version_from};
 
-// Null where the controller has none, or none is known yet.
-#[derive(Clone, Copy)]
-pub enum Version {
-    Null,
-    Is(u64),
-}
-
-// known: 0 for null.
+// known: 0 for none.
 #[repr(C)]
 #[derive(Clone, Copy)]
 pub struct VersionWords {
@@ -17,58 +10,47 @@ pub struct VersionWords {
     pub number: u64,
 }
 
-fn is_null(v: Version) -> bool
+fn is_null(v: Option<u64>) -> bool
     ensures { result ≡ is_null v }
 {
-    match v {
-        Version::Null => true,
-        Version::Is(_) => false,
-    }
+    matches!(v, None)
 }
 
-pub fn is_changed(old: Version, new: Version) -> bool
+pub fn is_changed(old: Option<u64>, new: Option<u64>) -> bool
     ensures { result ≡ is_changed old new }
 {
-    match old {
-        Version::Null => match new {
-            Version::Null => false,
-            Version::Is(_) => true,
-        },
-        Version::Is(a) => match new {
-            Version::Null => true,
-            Version::Is(b) => a != b,
-        },
+    match (old, new) {
+        (None, None) => false,
+        (Some(a), Some(b)) => a != b,
+        _ => true,
     }
 }
 
 // Whether a new version counts a reload.
-pub fn is_reloaded(old: Version, new: Version) -> bool
+pub fn is_reloaded(old: Option<u64>, new: Option<u64>) -> bool
     ensures { result ≡ is_reloaded old new }
 {
-    if !is_changed(old, new) {
-        return false;
-    }
-    !is_null(old)
+    is_changed(old, new) && !is_null(old)
 }
 
-pub fn version_from(known: u64, number: u64) -> Version
+pub fn version_from(known: u64, number: u64) -> Option<u64>
     ensures { result ≡ version_from known number }
 {
     if known == 0 {
-        return Version::Null;
+        return None;
     }
-    Version::Is(number)
+    Some(number)
 }
 
-pub fn version_words(v: Version) -> VersionWords
+pub fn version_words(v: Option<u64>) -> VersionWords
     ensures { version_from result.known result.number ≡ v }
 {
     match v {
-        Version::Null => VersionWords {
+        None => VersionWords {
             known: 0,
             number: 0,
         },
-        Version::Is(n) => VersionWords {
+        Some(n) => VersionWords {
             known: 1,
             number: n,
         },

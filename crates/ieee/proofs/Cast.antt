@@ -1,4 +1,4 @@
--- Rust's `x as u64` where the code does not leave it to the machine: from 2 ^ 64 on, and at -1 and below or a NaN.
+-- Rust's `x as u64` past the ends of what `casts::whole_part` takes: from 2 ^ 64 on, and at -1 and below or a NaN.
 use Rattle.std.proofs.Common.{◌≡◌, ℕ, ◌+◌, ◌-◌, ◌*◌, ◌/◌, ◌^◌, ◌<◌, ◌≤◌, min, true, false, not, T, ltb, pos, sym, refl, le-div_iff_mul-le, arith, nltb→le}
 use lib.Ieee.{Float, nan, inf, fin, up, down, lt, to_unsigned}
 use lib.Ieee.Fits.{down_pos}

@@ -1,21 +1,17 @@
 -- The numbers that answers of rule 1 have in C.
-use Rattle.std.specs.Prelude.{ℕ, ◌-◌, ◌^◌}
-use Rattle.names.specs.declared.order.Order.{Order}
-use Rattle.names.specs.declared.order.Order.TheVariants.{Less, Same, Greater}
-use Rattle.names.specs.declared.bits.Bit.{Bit}
-use Rattle.names.specs.declared.bits.Bit.TheVariants.{Plain, Word}
-use Rattle.names.specs.declared.keys.Found.{Found}
-use Rattle.names.specs.declared.keys.Found.TheVariants.{At, Nowhere}
+use Rattle.std.specs.Prelude.{ℕ, ◌-◌, ◌^◌, Option, Some, None}
+use Rattle.std.specs.declared.cmp.Ordering.{Ordering}
+use Rattle.std.specs.declared.cmp.Ordering.TheVariants.{Less, Equal, Greater}
 
-abbrev pub order_number : Order → ℕ
+abbrev pub order_number : Ordering → ℕ
 order_number Less = 0
-order_number Same = 1
+order_number Equal = 1
 order_number Greater = 2
 
-abbrev pub word_length : Bit → ℕ
-word_length Plain = 0
-word_length (Word w) = w
+abbrev pub word_length : Option ℕ → ℕ
+word_length None = 0
+word_length (Some w) = w
 
-abbrev pub found_tag : Found → ℕ
-found_tag (At tag) = tag
-found_tag Nowhere = 2 ^ 64 - 1
+abbrev pub found_tag : Option ℕ → ℕ
+found_tag (Some tag) = tag
+found_tag None = 2 ^ 64 - 1

@@ -1,5 +1,5 @@
 -- Rules 5 and 6 on a board in lent memory, and the state of the rounds from its C structs.
-use Rattle.std.specs.Prelude.{◌&&◌, cond, List, ◌≡◌, ℕ, eqb, leb, Float, length}
+use Rattle.std.specs.Prelude.{◌&&◌, cond, List, ◌≡◌, ℕ, eqb, leb, Float, length, Some, None}
 use Rattle.names.specs.Directory.{max_names}
 use Rattle.lent.specs.Lent.{over_bytes}
 use Rattle.board.specs.Layout.{board_size, is_board_size, tags_in, parts_in}
@@ -44,10 +44,10 @@ part_left mem i out = cond (eqb (size_check mem) 0) (over_bytes out (parts_in me
 -- ---- rounds
 
 abbrev pub cycle_of : LeafCycle → Cycle
-cycle_of c = record { begun = c.begun; last = c.last; index = c.index }
+cycle_of c = record { last = cond c.begun (Some c.last) None; index = c.index }
 
 abbrev pub tags_of : LeafRound → CycleTags
-tags_of r = record { tick = r.tick; boundary = r.boundary; cycle = record { begun = r.begun; last = r.last; index = r.index } }
+tags_of r = record { tick = r.tick; boundary = r.boundary; cycle = record { last = cond r.begun (Some r.last) None; index = r.index } }
 
 -- A round on a board; `listed` is how many tags it reads.
 pub record Rounded (old new : List ℕ) (r : LeafRound) (o : Options) (c : LeafCycle) (clock : Float) : Type 0 where

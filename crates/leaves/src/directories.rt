@@ -6,9 +6,10 @@ ghost use Rattle.names.specs.Directory.{max_names, max_name_length, names_of, di
 ghost use Rattle.names.specs.Keys.{key_of, word_of};
 ghost use Rattle.leaves.specs.Directories.{order_number, word_length, found_tag};
 
-use names::bits::{Bit, split_bit};
-use names::keys::{Found, word_of};
-use names::order::{Order, compare, compare_lower};
+use names::bits::split_bit;
+use names::keys::word_of;
+use names::order::{compare, compare_lower};
+use std::cmp::Ordering;
 
 #[unsafe(no_mangle)]
 pub extern "C" fn leaf_check_directory<'a>(buffer: &'a [u8], ends: &'a [u32]) -> u8
@@ -17,13 +18,13 @@ pub extern "C" fn leaf_check_directory<'a>(buffer: &'a [u8], ends: &'a [u32]) ->
     names::directory::check_directory(buffer, ends)
 }
 
-fn order_number(o: Order) -> u8
+fn order_number(o: Ordering) -> u8
     ensures { result ≡ order_number o }
 {
     match o {
-        Order::Less => 0,
-        Order::Same => 1,
-        Order::Greater => 2,
+        Ordering::Less => 0,
+        Ordering::Equal => 1,
+        Ordering::Greater => 2,
     }
 }
 
@@ -46,10 +47,7 @@ pub extern "C" fn leaf_compare_lower(a: &[u8], b: &[u8]) -> u8
 pub extern "C" fn leaf_split_bit(name: &[u8]) -> usize
     ensures { result ≡ word_length (split_bit name.now) }
 {
-    match split_bit(name) {
-        Bit::Plain => 0,
-        Bit::Word(w) => w,
-    }
+    split_bit(name).unwrap_or(0)
 }
 
 #[unsafe(no_mangle)]
@@ -64,8 +62,5 @@ pub extern "C" fn leaf_sort_key<'a>(buffer: &'a [u8], ends: &'a [u32], tag: usiz
 pub extern "C" fn leaf_word_of<'a>(buffer: &'a [u8], ends: &'a [u32], tag: usize) -> usize
     ensures { result ≡ found_tag (word_of (names_of buffer.now ends.now) tag) }
 {
-    match word_of(buffer, ends, tag) {
-        Found::At(k) => k,
-        Found::Nowhere => usize::MAX,
-    }
+    word_of(buffer, ends, tag).unwrap_or(usize::MAX)
 }

@@ -2,7 +2,7 @@
 ghost use Rattle.std.specs.Prelude.{◌≡◌};
 ghost use Rattle.values.specs.Entry.{merged, same_entry};
 ghost use Rattle.values.specs.Deadband.{within_deadband};
-ghost use Rattle.values.specs.declared.entry.Held.TheVariants.{Is};
+ghost use Rattle.std.specs.Prelude.{Some};
 ghost use Rattle.words.specs.Entry.{entry_from, held_from};
 ghost use Rattle.leaves.specs.Entries.{result_from};
 
@@ -15,38 +15,29 @@ use words::value::value_from;
 pub extern "C" fn leaf_same(a: EntryWords, b: EntryWords) -> bool
     ensures { result ≡ same_entry (entry_from a) (entry_from b) }
 {
-    let x = entry_from(a);
-    let y = entry_from(b);
-    values::entry::same(x, y)
+    values::entry::same(entry_from(a), entry_from(b))
 }
 
 #[unsafe(no_mangle)]
 pub extern "C" fn leaf_within_deadband(band: f64, published: EntryWords, new: EntryWords) -> bool
     ensures { result ≡ within_deadband band (entry_from published) (entry_from new) }
 {
-    let x = entry_from(published);
-    let y = entry_from(new);
-    values::deadband::within_deadband(band, x, y)
+    values::deadband::within_deadband(band, entry_from(published), entry_from(new))
 }
 
 // A result is an entry's value and error.
 fn result_from(w: EntryWords) -> TagResult
     ensures { result ≡ result_from w }
 {
-    let value = value_from(w.kind, w.word);
-    let error = error_from(w.error, w.message);
     TagResult {
-        value: value,
-        error: error,
+        value: value_from(w.kind, w.word),
+        error: error_from(w.error, w.message),
     }
 }
 
 #[unsafe(no_mangle)]
 pub extern "C" fn leaf_merge(old: EntryWords, res: EntryWords, t: i64) -> EntryWords
-    ensures { held_from result ≡ Is (merged (held_from old) (result_from res) t) }
+    ensures { held_from result ≡ Some (merged (held_from old) (result_from res) t) }
 {
-    let o = held_from(old);
-    let x = result_from(res);
-    let e = values::entry::merge(o, x, t);
-    entry_words(e)
+    entry_words(values::entry::merge(held_from(old), result_from(res), t))
 }

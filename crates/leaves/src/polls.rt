@@ -5,7 +5,7 @@ ghost use Rattle.settings.specs.Configured.{given_groups};
 ghost use Rattle.board.specs.Board.{board_in, with_table, with_configured};
 ghost use Rattle.fresh.specs.Fresh.{configured_room, fresh_board};
 ghost use Rattle.tiers.specs.Tiers.{set_tier};
-ghost use Rattle.leaves.specs.Polls.{size_for, size_check, fresh_check, Called, tier_look, part_left, tags_of, Rounded};
+ghost use Rattle.leaves.specs.Polls.{size_for, size_check, fresh_check, Called, tier_look, part_left, cycle_of, tags_of, Rounded};
 
 use board::parts::{asked_of, graces_of, order_of};
 use board::starts::{is_board_size, size_for, tags_in};
@@ -25,8 +25,20 @@ pub struct LeafCycle {
     pub begun: bool,
 }
 
+impl From<LeafCycle> for Cycle {
+    ghost from_gives = { λ c cycle. cycle ≡ cycle_of c };
+
+    fn from(c: LeafCycle) -> Cycle {
+        let last = if c.begun { Some(c.last) } else { None };
+        Cycle {
+            last,
+            index: c.index,
+        }
+    }
+}
+
 #[repr(C)]
-#[derive(Clone, Copy)]
+#[derive(Clone, Copy, Default)]
 pub struct LeafRound {
     pub code: u64,
     pub tick: f64,
@@ -37,16 +49,18 @@ pub struct LeafRound {
     pub boundary: bool,
 }
 
-// The answer to memory that no board has the length of.
+// The answer to memory that no board has the length of. The checks answer numbers, and no Result, since
+// the C functions hand them on.
 const NOT_A_BOARD: u32 = 100;
 
 fn size_check(mem: &[u8]) -> u32
     ensures { result ≡ size_check mem.now }
 {
     if is_board_size(mem.len()) {
-        return 0;
+        0
+    } else {
+        NOT_A_BOARD
     }
-    NOT_A_BOARD
 }
 
 // How many bytes a board for so many tags has; 0 for a count that no directory has.
@@ -54,13 +68,10 @@ fn size_check(mem: &[u8]) -> u32
 pub extern "C" fn leaf_size(count: usize) -> usize
     ensures { result ≡ size_for count }
 {
-    if count == 0 {
-        return 0;
+    match count {
+        1..=MAX_NAMES => size_for(count),
+        _ => 0,
     }
-    if MAX_NAMES < count {
-        return 0;
-    }
-    size_for(count)
 }
 
 fn fresh_check<'a>(mem: &'a [u8], ends: &'a [u32]) -> u32
@@ -110,14 +121,13 @@ pub extern "C" fn leaf_set_tier(mem: &mut [u8], k: u16, tier: u8, grace: f64, cl
 fn rounded(r: CycleTags, listed: usize) -> LeafRound
     ensures { (result.code ≡ 0) × ((result.listed ≡ listed) × (tags_of result ≡ r)) }
 {
-    let after = r.cycle;
     LeafRound {
         code: 0,
         tick: r.tick,
-        last: after.last,
-        index: after.index,
+        last: r.cycle.last.unwrap_or(0.0),
+        index: r.cycle.index,
         listed: listed as u64,
-        begun: after.begun,
+        begun: r.cycle.last.is_some(),
         boundary: r.boundary,
     }
 }
@@ -126,13 +136,8 @@ fn refused(code: u32) -> LeafRound
     ensures { result.code ≡ code }
 {
     LeafRound {
-        code: code as u64,
-        tick: 0.0,
-        last: 0.0,
-        index: 0,
-        listed: 0,
-        begun: false,
-        boundary: false,
+        code: u64::from(code),
+        ..LeafRound::default()
     }
 }
 
@@ -144,16 +149,13 @@ pub extern "C" fn leaf_cycle_tags(mem: &mut [u8], o: Options, c: LeafCycle, cloc
     if code != 0 {
         return refused(code);
     }
-    let cycle = Cycle {
-        begun: c.begun,
-        last: c.last,
-        index: c.index,
-    };
-    let r = rounds::round::cycle_tags(mem, o, cycle, clock);
+    let r = rounds::round::cycle_tags(mem, o, Cycle::from(c), clock);
     rounded(r, asked_count(mem))
 }
 
-// The tags that the last round reads: their count and then each, in two bytes.
+// The tags that the last round reads: their count and then each, in two bytes. This function and the
+// next two stay three: the clauses of one that takes the part's function (when it may be called, and
+// what the slice that it gives back holds) are longer than the bodies.
 #[unsafe(no_mangle)]
 pub extern "C" fn leaf_asked(mem: &[u8], out: &mut [u8]) -> u32
     ensures value { result ≡ size_check mem.now }

@@ -16,8 +16,7 @@ pub const CHANGE: usize = 72;
 fn put_change(out: &mut [u8], i: usize, table: &[u8], k: usize)
     ensures { out.new ≡ record_put out.old i (change_cells (table_in table.now) k) }
 {
-    let published = published_of(table, k);
-    let w = held_words(published);
+    let w = held_words(published_of(table, k));
     let cells = [
         k as u64, w.held, w.kind, w.word, w.t, w.error, w.message, 0, 0,
     ];
@@ -32,9 +31,7 @@ pub fn put_changes(out: &mut [u8], table: &[u8], list: &[u8])
     if out.len() / CHANGE < n {
         return;
     }
-    let mut i: usize = 0;
-    while i < n {
+    for i in 0..n {
         put_change(out, 9 * i, table, at(list, i));
-        i += 1;
     }
 }

@@ -10,7 +10,7 @@ ghost use Rattle.lent.specs.Lent.{cell_put, record_put, tag_bytes, over_bytes, w
 
 use tags::{at, count};
 
-// Cell i; past the last whole cell nothing is written.
+// Cell i; past the last whole cell nothing is written. The crate memory stores a cell too, but promises cells, and here it is bytes.
 pub fn put_cell(out: &mut [u8], i: usize, v: u64)
     ensures { out.new ≡ cell_put out.old i v }
 {
@@ -33,20 +33,16 @@ pub fn put_record(out: &mut [u8], i: usize, cells: &[u64])
     ensures { out.new ≡ record_put out.old i cells.now }
 {
     let size = out.len() / 8;
-    if size < i {
+    if size < i || size - i < cells.len() {
         return;
     }
-    if size - i < cells.len() {
-        return;
-    }
-    let mut j: usize = 0;
-    while j < cells.len() {
+    for j in 0..cells.len() {
         put_cell(out, i + j, cells[j]);
-        j += 1;
     }
 }
 
-// The tags of a list, two bytes each; where there is no room for all of them nothing is written.
+// The tags of a list, two bytes each; where there is no room for all of them nothing is written. Changes are written by a loop of
+// their own: one for both would take a closure that writes, and what its bytes are, for a loop of three lines.
 pub fn put_tags(out: &mut [u8], list: &[u8])
     ensures { out.new ≡ wrote_all out.old (tag_bytes (list_in list.now)) }
 {
@@ -54,13 +50,11 @@ pub fn put_tags(out: &mut [u8], list: &[u8])
     if out.len() / 2 < n {
         return;
     }
-    let mut i: usize = 0;
-    while i < n {
+    for i in 0..n {
         let k = at(list, i);
         let p = 2 * i;
         out[p] = (k % 256) as u8;
         out[p + 1] = (k / 0x100 % 256) as u8;
-        i += 1;
     }
 }
 
@@ -68,15 +62,12 @@ pub fn put_tags(out: &mut [u8], list: &[u8])
 pub fn put_bytes(out: &mut [u8], bytes: &[u8])
     ensures { out.new ≡ over_bytes out.old bytes.now }
 {
-    let most = out.len();
-    let n = if bytes.len() < most {
+    let n = if bytes.len() < out.len() {
         bytes.len()
     } else {
-        most
+        out.len()
     };
-    let mut j: usize = 0;
-    while j < n {
+    for j in 0..n {
         out[j] = bytes[j];
-        j += 1;
     }
 }

@@ -1,5 +1,5 @@
 -- Laws of fields: one byte more at a place, what a number at a place says of the fields from there on, and three numbers.
-use mathlib.Core.Path.{◌≡◌, refl, ap, ◌∙◌}
+use mathlib.Core.Path.{◌≡◌, refl, ap, sym, ◌∙◌}
 use mathlib.Core.Bool.{Bool, true, false, cond, ◌&&◌, and-false}
 use mathlib.Core.List.{List, [], ◌∷◌}
 use Prim.Native.Nat.{ℕ, zero, suc, ◌+◌, ◌*◌, ◌-◌, ◌^◌, ◌≤◌, ◌<◌}
@@ -8,12 +8,10 @@ use native.Mathlib.Numerals.{add-one}
 use native.Mathlib.Omega.{arith}
 use borrow.Author.Tests.{le-leb, lt-leb, eq-eqb, ne_eqb}
 use lib.Dec.{leb, eqb}
+use Rattle.std.specs.Prelude.{Option, Some, None}
 use lib.ListN.{length, drop, get_or, length-drop, drop_of_length-le}
 use lib.Seq.{drop-cons, drop-drop}
 use Rattle.listing.specs.Line.{in_front, fields, first, is_digit, all, is_number, decimal_after, decimal, number_from, three_in}
-use Rattle.listing.specs.declared.line.Number.{Number}
-use Rattle.listing.specs.declared.line.Number.TheVariants.{Is, None}
-use Rattle.listing.specs.declared.line.Three.TheVariants.{Are, None as Fewer}
 
 -- ---- the first field
 
@@ -41,13 +39,13 @@ fields_byte b bs e = rw e (ap (in_front b) (fields_cons bs))
 -- ---- a number, one byte after the other
 
 -- the number that the rest f of a field makes of k digits with the value v before place i
-abbrev number_on : ℕ → ℕ → ℕ → List ℕ → Number
-number_on k v i f = cond ((leb 1 (k + length f) && leb (k + length f) 15) && all is_digit f) (Is (decimal_after v f) (i + length f)) None
+abbrev number_on : ℕ → ℕ → ℕ → List ℕ → Option (ℕ × ℕ)
+number_on k v i f = cond ((leb 1 (k + length f) && leb (k + length f) 15) && all is_digit f) (Some (decimal_after v f, i + length f)) None
 
-no_more : (at i v : ℕ) → at ≤ i → i - at ≤ 15 → number_on (i - at) v i [] ≡ cond (eqb at i) None (Is v i)
+no_more : (at i v : ℕ) → at ≤ i → i - at ≤ 15 → number_on (i - at) v i [] ≡ cond (eqb at i) None (Some (v, i))
 no_more at i v h k = go (i - at) refl
   where
-    go : (n : ℕ) → i - at ≡ n → number_on (i - at) v i [] ≡ cond (eqb at i) None (Is v i)
+    go : (n : ℕ) → i - at ≡ n → number_on (i - at) v i [] ≡ cond (eqb at i) None (Some (v, i))
     go zero e =
         let same : at ≡ i = omega arith in
         rw (e, eq-eqb at i same)
@@ -70,7 +68,7 @@ module _ (k v i b : ℕ) (f : List ℕ) where
       rw (m, n, e)
 
 -- The number that starts at place `at`, of which the bytes before place i are read and have the value v.
-abbrev pub ahead : List ℕ → ℕ → ℕ → ℕ → Number
+abbrev pub ahead : List ℕ → ℕ → ℕ → ℕ → Option (ℕ × ℕ)
 ahead line at i v = number_on (i - at) v i (first (drop i line))
 
 pub ahead_start : (line : List ℕ) (at : ℕ) → number_from at (drop at line) ≡ ahead line at at 0
@@ -80,12 +78,12 @@ ahead_start line at =
     rw (z, zero-add)
 
 module _ (line : List ℕ) (at i v : ℕ) where
-  pub ahead_end : at ≤ i → i - at ≤ 15 → length line ≤ i → ahead line at i v ≡ cond (eqb at i) None (Is v i)
+  pub ahead_end : at ≤ i → i - at ≤ 15 → length line ≤ i → ahead line at i v ≡ cond (eqb at i) None (Some (v, i))
   unfolding fields
   ahead_end h k l = rw (drop_of_length-le line l) (no_more at i v h k)
 
   module _ (l : i < length line) where
-    pub ahead_space : at ≤ i → i - at ≤ 15 → get_or line i 0 ≡ 32 → ahead line at i v ≡ cond (eqb at i) None (Is v i)
+    pub ahead_space : at ≤ i → i - at ≤ 15 → get_or line i 0 ≡ 32 → ahead line at i v ≡ cond (eqb at i) None (Some (v, i))
     ahead_space h k e = rw (drop-cons line i 0 l, fields_space (get_or line i 0) (drop (suc i) line) (eq-eqb _ _ e)) (no_more at i v h k)
 
     module _ (n : get_or line i 0 ≡ 32 → ⊥) where
@@ -151,15 +149,22 @@ pub record Got (line : List ℕ) (at a i : ℕ) : Type 0 where
   pub last : length line ≤ i → fields (drop at line) ≡ field ∷ []
   pub more : i < length line → fields (drop at line) ≡ field ∷ fields (drop (i + 1) line)
 
-pub got : (line : List ℕ) (at a i : ℕ) → Is a i ≡ number_from at (drop at line) → Got line at a i
+-- two pairs that are told are the same in both parts
+some_pair : {a b i j : ℕ} → ◌≡◌ {A = Option (ℕ × ℕ)} (Some (a, i)) (Some (b, j)) → (a ≡ b) × (i ≡ j)
+some_pair {a} {b} {i} {j} e =
+    let part : Option (ℕ × ℕ) → ℕ × ℕ = λ o. elim o [ Some p ↦ p | None ↦ (0, 0) ] in
+    (ap (λ (o : Option (ℕ × ℕ)). (part o).0) e, ap (λ (o : Option (ℕ × ℕ)). (part o).1) e)
+
+pub got : (line : List ℕ) (at a i : ℕ) → ◌≡◌ {A = Option (ℕ × ℕ)} (Some (a, i)) (number_from at (drop at line)) → Got line at a i
 unfolding number_from
 got line at a i e = go (is_number (first (drop at line))) refl e
   where
     go : (t : Bool) → is_number (first (drop at line)) ≡ t
-        → Is a i ≡ cond t (Is (decimal (first (drop at line))) (at + length (first (drop at line)))) None → Got line at a i
+        → ◌≡◌ {A = Option (ℕ × ℕ)} (Some (a, i)) (cond t (Some (decimal (first (drop at line)), at + length (first (drop at line)))) None) → Got line at a i
     go true n p =
-        let v : decimal (first (drop at line)) ≡ a = cc in
-        let w : at + length (first (drop at line)) ≡ i = cc in
+        let q = some_pair p in
+        let v : decimal (first (drop at line)) ≡ a = sym q.0 in
+        let w : at + length (first (drop at line)) ≡ i = sym q.1 in
         record { field = first (drop at line); number = n; value = v; last = at_end w; more = before_end w }
       where
         at_end : at + length (first (drop at line)) ≡ i → length line ≤ i → fields (drop at line) ≡ first (drop at line) ∷ []
@@ -180,7 +185,7 @@ pub lost : (at : ℕ) (s : List ℕ) → None ≡ number_from at s → is_number
 unfolding number_from
 lost at s e = go (is_number (first s)) refl e
   where
-    go : (t : Bool) → is_number (first s) ≡ t → None ≡ cond t (Is (decimal (first s)) (at + length (first s))) None → is_number (first s) ≡ false
+    go : (t : Bool) → is_number (first s) ≡ t → ◌≡◌ {A = Option (ℕ × ℕ)} None (cond t (Some (decimal (first s), at + length (first s))) None) → is_number (first s) ≡ false
     go true n p = let z : ◌≡◌ {A = ℕ} 0 1 = cc in absurd (zero_one z)
       where
         zero_one : ◌≡◌ {A = ℕ} 0 1 → ⊥
@@ -193,42 +198,42 @@ not_all at s e = rw (fields_cons s, lost at s e)
 
 -- ---- three numbers
 
-three_none : (fs : List (List ℕ)) → all is_number fs ≡ false → three_in fs ≡ Fewer
+three_none : (fs : List (List ℕ)) → all is_number fs ≡ false → three_in fs ≡ None
 unfolding three_in
 three_none fs e = rw e
 
-three_count : (fs : List (List ℕ)) → eqb (length fs) 3 ≡ false → three_in fs ≡ Fewer
+three_count : (fs : List (List ℕ)) → eqb (length fs) 3 ≡ false → three_in fs ≡ None
 unfolding three_in
 three_count fs e = rw (e, and-false)
 
 -- what the fields from place `at` on are, by the numbers that are found there one after the other
 module _ (line : List ℕ) (at : ℕ) where
-  pub three_no_first : None ≡ number_from at (drop at line) → three_in (fields (drop at line)) ≡ Fewer
+  pub three_no_first : None ≡ number_from at (drop at line) → three_in (fields (drop at line)) ≡ None
   three_no_first e = three_none _ (not_all at (drop at line) e)
 
   module _ {a i : ℕ} (x : Got line at a i) where
-    pub three_one : length line ≤ i → three_in (fields (drop at line)) ≡ Fewer
+    pub three_one : length line ≤ i → three_in (fields (drop at line)) ≡ None
     three_one l = rw (x.last l) (three_count (x.field ∷ []) refl)
 
     module _ (l : i < length line) where
-      pub three_no_second : None ≡ number_from (i + 1) (drop (i + 1) line) → three_in (fields (drop at line)) ≡ Fewer
+      pub three_no_second : None ≡ number_from (i + 1) (drop (i + 1) line) → three_in (fields (drop at line)) ≡ None
       three_no_second e = rw (x.more l) (three_none _ (rw (not_all (i + 1) (drop (i + 1) line) e, and-false)))
 
       module _ {b j : ℕ} (y : Got line (i + 1) b j) where
-        pub three_two : length line ≤ j → three_in (fields (drop at line)) ≡ Fewer
+        pub three_two : length line ≤ j → three_in (fields (drop at line)) ≡ None
         three_two m = rw (x.more l, y.last m) (three_count (x.field ∷ y.field ∷ []) refl)
 
         module _ (m : j < length line) where
-          pub three_no_third : None ≡ number_from (j + 1) (drop (j + 1) line) → three_in (fields (drop at line)) ≡ Fewer
+          pub three_no_third : None ≡ number_from (j + 1) (drop (j + 1) line) → three_in (fields (drop at line)) ≡ None
           three_no_third e = rw (x.more l, y.more m) (three_none _ (rw (not_all (j + 1) (drop (j + 1) line) e, and-false, and-false)))
 
           module _ {c k : ℕ} (z : Got line (j + 1) c k) where
-            pub three_four : k < length line → three_in (fields (drop at line)) ≡ Fewer
+            pub three_four : k < length line → three_in (fields (drop at line)) ≡ None
             three_four n = rw (x.more l, y.more m, z.more n, fields_cons (drop (k + 1) line)) (three_count _ (ne_eqb _ 3 (above (length (drop 1 (fields (drop (k + 1) line)))))))
               where
                 above : (n : ℕ) → suc (suc (suc (suc n))) ≡ 3 → ⊥
                 above n e = omega arith
 
-            pub three_all : length line ≤ k → three_in (fields (drop at line)) ≡ Are a b c
+            pub three_all : length line ≤ k → three_in (fields (drop at line)) ≡ Some (a, b, c)
             unfolding three_in
             three_all n = rw (x.more l, y.more m, z.last n, x.number, y.number, z.number, x.value, y.value, z.value)

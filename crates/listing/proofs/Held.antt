@@ -1,10 +1,11 @@
 -- What a buffer holds while a line is written into it.
 use mathlib.Core.Path.{◌≡◌, refl, ap, sym, ◌∙◌}
 use mathlib.Core.List.{List, [], ◌++◌, append_assoc}
-use Prim.Native.Nat.{ℕ, ◌+◌, ◌-◌, ◌≤◌, ◌<◌}
+use Prim.Native.Nat.{ℕ, ◌+◌, ◌≤◌, ◌<◌}
 use native.Mathlib.Nat.{zero-add}
 use native.Mathlib.Omega.{arith}
 use lib.ListN.{length, take, drop, length-append, length-take, length-drop, take-append-drop}
+use Rattle.std.specs.Prelude.{Option, Some, None}
 use lib.Seq.{length-take-le, take_at, drop_at, drop-drop}
 use Rattle.listing.specs.Write.{placed, written, after, Put}
 use Rattle.listing.proofs.Placed.{written_fits, after_fits, after_not, no_room, had_room}
@@ -43,11 +44,12 @@ further old out at n e = sym (drop-drop n at out) ∙ ap (drop n) e ∙ drop-dro
 
 module _ {old out : List ℕ} {at : ℕ} {bytes : List ℕ} (h : Holds old out at bytes) where
   -- Bytes more, where there is room.
-  pub holds_more : (end ys : List ℕ) (r : ℕ) → r ≡ after out at ys → end ≡ written out at ys → (r ≡ at → ⊥) → Holds old end r (bytes ++ ys)
-  holds_more end ys r p q n =
-      let room : at + length ys ≤ length out = had_room out at ys (λ e. n (p ∙ e)) in
+  pub holds_more : (end ys : List ℕ) (r : ℕ) → Some r ≡ after out at ys → end ≡ written out at ys → Holds old end r (bytes ++ ys)
+  holds_more end ys r p q =
+      let told = had_room out at ys r p in
+      let room : at + length ys ≤ length out = told.0 in
       let e : end ≡ placed out at ys = q ∙ written_fits out at ys room in
-      let s : r ≡ at + length ys = p ∙ after_fits out at ys room in
+      let s : r ≡ at + length ys = told.1 in
       record {
         size = ap length e ∙ placed-size out at ys room ∙ h.size;
         place = s ∙ ap (λ (k : ℕ). k + length ys) h.place ∙ sym (length-append bytes ys);
@@ -56,50 +58,42 @@ module _ {old out : List ℕ} {at : ℕ} {bytes : List ℕ} (h : Holds old out a
         rest = rw (s, e) (placed-drop out at ys h.within ∙ further old out at (length ys) h.rest);
       }
 
-  -- The place moves on.
-  pub place_grows : {end : List ℕ} {r : ℕ} (ys : List ℕ) → Holds old end r (bytes ++ ys) → at ≤ r
-  place_grows ys g = omega (arith, length-append bytes ys, h.place, g.place)
-
   -- No room for them.
-  pub holds_full : (ys : List ℕ) (r : ℕ) → r ≡ after out at ys → r ≡ at → 1 ≤ length ys → length old < length (bytes ++ ys)
-  holds_full ys r p e l =
-      let n = no_room out at ys l (sym p ∙ e) in
+  pub holds_full : (ys : List ℕ) → ◌≡◌ {A = Option ℕ} None (after out at ys) → length old < length (bytes ++ ys)
+  holds_full ys e =
+      let n = no_room out at ys e in
       omega (arith, length-append bytes ys, h.size, h.place)
 
-  -- Begun over an older buffer.
-  pub holds_since : (older begun : List ℕ) (from : ℕ) (first : List ℕ) → old ≡ begun → Holds older begun from first → from ≤ at → Holds older out at bytes
-  holds_since older begun from first e g l =
-      let z : from + (at - from) ≡ at = omega arith in
-      record {
-        size = h.size ∙ ap length e ∙ g.size;
-        place = h.place;
-        within = h.within;
-        front = h.front;
-        rest = h.rest ∙ ap (drop at) e ∙ ap (λ (n : ℕ). drop n begun) (sym z) ∙ further older begun from (at - from) g.rest ∙ ap (λ (n : ℕ). drop n older) z;
-      }
-
-  pub holds_self : Holds out out at bytes
-  holds_self = record { size = refl; place = h.place; within = h.within; front = h.front; rest = refl }
-
   -- All of them.
-  pub holds_put : Put old out bytes at
+  pub holds_put : Put old out bytes (Some at)
   holds_put =
       let l : 0 + length bytes ≤ length old = omega (arith, h.size, h.place, h.within) in
       record {
-        place = h.place ∙ sym (zero-add (length bytes)) ∙ sym (after_fits old 0 bytes l);
+        place = ap Some (h.place ∙ sym (zero-add (length bytes))) ∙ sym (after_fits old 0 bytes l);
         held = λ _. sym (take-append-drop at out) ∙ rw (h.front, h.rest, h.place, ← zero-add (length bytes)) (sym (written_fits old 0 bytes l));
       }
 
--- What is put from the start on, if the answer is not 0.
-pub put_holds : {out end bytes : List ℕ} {r : ℕ} → Put out end bytes r → (r ≡ 0 → ⊥) → Holds out end r bytes
-put_holds {out} {end} {bytes} {r} p n =
-    let l : 0 + length bytes ≤ length out = had_room out 0 bytes (λ e. n (p.place ∙ e)) in
-    holds_more (holds_none out) end bytes r p.place (p.held (omega arith)) n
+-- What is put from the start on, if there was room.
+pub put_holds : {out end bytes : List ℕ} {r : ℕ} → Put out end bytes (Some r) → Holds out end r bytes
+put_holds {out} {end} {bytes} {r} p =
+    let l = had_room out 0 bytes r p.place in
+    holds_more (holds_none out) end bytes r p.place (p.held (omega arith))
 
 -- What does not fit.
-pub put_not : (out end bytes : List ℕ) → length out < length bytes → Put out end bytes 0
+pub put_not : (out end bytes : List ℕ) → length out < length bytes → Put out end bytes None
 put_not out end bytes h =
     record { place = sym (after_not out 0 bytes (omega arith)); held = λ l. absurd (never l) }
   where
     never : length bytes ≤ length out → ⊥
     never l = omega arith
+
+pub put_full : {out end bytes : List ℕ} → Put out end bytes None → length out < length bytes
+put_full {out} {bytes = bytes} p =
+    let l = no_room out 0 bytes p.place in
+    omega arith
+
+-- The last bytes of a line, and what is answered after them.
+pub holds_end : {old out : List ℕ} {at : ℕ} {bytes : List ℕ} → Holds old out at bytes → (end ys : List ℕ) (r : Option ℕ)
+    → r ≡ after out at ys → end ≡ written out at ys → Put old end (bytes ++ ys) r
+holds_end h end ys (Some r) p q = holds_put (holds_more h end ys r p q)
+holds_end {old} {bytes = bytes} h end ys None p q = put_not old end (bytes ++ ys) (holds_full h ys p)

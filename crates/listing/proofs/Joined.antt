@@ -11,7 +11,7 @@ use lib.Seq.{take-suc, take_all}
 use Rattle.listing.specs.Line.{fields, is_digit, all, decimal}
 use Rattle.listing.specs.Write.{decimal_of, spaced, joined, fields_of, numbers_of, line_of}
 use Rattle.listing.proofs.Fields.{fields_byte}
-use Rattle.listing.proofs.Decimal.{decimal_some, decimal_digits, decimal-back}
+use Rattle.listing.proofs.Decimal.{decimal_digits, decimal-back}
 
 spaced-append : (fs gs : List (List ℕ)) → spaced (fs ++ gs) ≡ spaced fs ++ spaced gs
 spaced-append [] gs = refl
@@ -25,9 +25,6 @@ later n = 32 ∷ decimal_of n
 pub head_fields : (ms : ℕ) (b : Bool) (n : ℕ) → fields_of (numbers_of ms b n []) ≡ decimal_of ms ++ later (cond b 1 0) ++ later n
 unfolding joined
 head_fields ms b n = simp (append-nil, append_assoc)
-
-pub head_some : (ms : ℕ) (b : Bool) (n : ℕ) → 1 ≤ length (fields_of (numbers_of ms b n []))
-head_some ms b n = rw (head_fields ms b n, length-append, length-append) (omega (arith, decimal_some ms))
 
 -- the fields of a line with the first i of its tags
 abbrev pub so_far : ℕ → Bool → List ℕ → ℕ → List ℕ

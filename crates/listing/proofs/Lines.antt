@@ -1,35 +1,33 @@
 -- Laws of lines: what the letter makes of the fields after it, and one byte more of a search for the line feed.
-use mathlib.Core.Path.{◌≡◌, refl}
+use mathlib.Core.Path.{◌≡◌, refl, ◌∙◌}
 use mathlib.Core.Bool.{Bool, true, false, cond, and-false}
 use mathlib.Core.List.{List, [], ◌∷◌}
-use Prim.Native.Nat.{ℕ, suc, ◌+◌, ◌≤◌, ◌<◌}
+use Prim.Native.Nat.{ℕ, suc, ◌+◌, ◌-◌, ◌≤◌, ◌<◌}
 use native.Mathlib.Nat.{not-suc-le-zero}
 use native.Mathlib.Numerals.{add-one}
 use native.Mathlib.Omega.{arith}
 use borrow.Author.Tests.{eqb-true, eq-eqb, ne_eqb}
 use lib.Dec.{eqb}
-use lib.ListN.{length, drop, get_or, drop_of_length-le}
-use lib.Seq.{drop-cons}
+use Rattle.std.specs.Prelude.{Option, Some, None}
+use lib.ListN.{length, take, drop, get_or, length-drop, drop_of_length-le}
+use lib.Seq.{drop-cons, take_all}
 use Rattle.listing.specs.Line.{fields, all, is_number, decimal, are_numbers, value, three_in, as_options, as_name, as_set, as_round, by_letter, parsed, line_end}
 use Rattle.listing.specs.declared.line.Line.{Line}
 use Rattle.listing.specs.declared.line.Line.TheVariants.{Options, Name, Set, Round, Other}
-use Rattle.listing.specs.declared.line.Three.{Three}
-use Rattle.listing.specs.declared.line.Three.TheVariants.{Are, None as Fewer}
-use Rattle.listing.specs.declared.line.End.TheVariants.{At, Nowhere}
 use Rattle.listing.proofs.Fields.{fields_cons, fields_space, fields_byte}
 
 -- ---- the forms
 
 -- What three numbers are told as, by a line of three numbers.
-abbrev pub told : (ℕ → ℕ → ℕ → Line) → Three → Line
-told line (Are a b c) = line a b c
-told line Fewer = Other
+abbrev pub told : (ℕ → ℕ → ℕ → Line) → Option (ℕ × ℕ × ℕ) → Line
+told line (Some v) = line v.0 v.1 v.2
+told line None = Other
 
 told_as : (line : ℕ → ℕ → ℕ → Line) (fs : List (List ℕ)) → cond (are_numbers 3 fs) (line (value fs 0) (value fs 1) (value fs 2)) Other ≡ told line (three_in fs)
 unfolding three_in
 told_as line fs = go (are_numbers 3 fs)
   where
-    go : (t : Bool) → cond t (line (value fs 0) (value fs 1) (value fs 2)) Other ≡ told line (cond t (Are (value fs 0) (value fs 1) (value fs 2)) Fewer)
+    go : (t : Bool) → cond t (line (value fs 0) (value fs 1) (value fs 2)) Other ≡ told line (cond t (Some (value fs 0, value fs 1, value fs 2)) None)
     go true = refl
     go false = refl
 
@@ -130,14 +128,25 @@ line_lettered (b ∷ d ∷ bs) h e = go (eqb b 32) refl
         rw (fields_space b (d ∷ bs) p) (rw s)
     go false p = rw (fields_byte b (d ∷ bs) p, fields_space d bs (eq-eqb d 32 e))
 
+-- So does the slice after the two.
+pub line_rest : (line : List ℕ) (b : ℕ) → 1 < length line → get_or line 1 0 ≡ 32 → get_or line 0 0 ≡ b
+    → parsed line ≡ lettered b (fields (take (length line - 2) (drop 2 line)))
+line_rest line b h e f =
+    line_lettered line h e ∙ rw (f, take_all (length line - 2) (drop 2 line) (omega (arith, length-drop 2 line)))
+
+-- Any other letter.
+pub line_unlettered : (line : List ℕ) → 1 < length line → get_or line 1 0 ≡ 32
+    → (get_or line 0 0 ≡ 111 → ⊥) → (get_or line 0 0 ≡ 110 → ⊥) → (get_or line 0 0 ≡ 115 → ⊥) → (get_or line 0 0 ≡ 99 → ⊥) → parsed line ≡ Other
+line_unlettered line h e p q r s = line_lettered line h e ∙ rw (ne_eqb _ _ p, ne_eqb _ _ q, ne_eqb _ _ r, ne_eqb _ _ s)
+
 -- ---- the line feed
 
 module _ (s : List ℕ) (i : ℕ) where
-  pub feed_end : length s ≤ i → line_end i (drop i s) ≡ Nowhere
+  pub feed_end : length s ≤ i → line_end i (drop i s) ≡ None
   unfolding line_end
   feed_end h = rw (drop_of_length-le s h)
 
-  pub feed_here : i < length s → get_or s i 0 ≡ 10 → line_end i (drop i s) ≡ At i
+  pub feed_here : i < length s → get_or s i 0 ≡ 10 → line_end i (drop i s) ≡ Some i
   unfolding line_end
   feed_here h e = rw (drop-cons s i 0 h, eq-eqb _ _ e)
 

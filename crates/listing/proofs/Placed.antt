@@ -8,6 +8,7 @@ use native.Mathlib.Numerals.{add-one}
 use native.Mathlib.Omega.{arith}
 use borrow.Author.Tests.{le-leb, lt-leb, leb-true, leb-false}
 use lib.ListN.{length, take, drop, set, get_or, length-append, length-set, take-append-drop}
+use Rattle.std.specs.Prelude.{Option, Some, None}
 use lib.Seq.{drop-cons, take-suc, length-take-le, set_at, get_or-set_same, take-set-le, drop-set-lt}
 use Rattle.listing.specs.Write.{decimal_of, placed, room, written, after}
 use Rattle.listing.proofs.Decimal.{decimal_one, decimal_more, width_more}
@@ -44,33 +45,30 @@ module _ (out : List ℕ) (at : ℕ) (bytes : List ℕ) where
   unfolding written
   written_not h = rw (lt-leb _ _ h)
 
-  pub after_fits : at + length bytes ≤ length out → after out at bytes ≡ at + length bytes
+  pub after_fits : at + length bytes ≤ length out → after out at bytes ≡ Some (at + length bytes)
   unfolding after
   after_fits h = rw (le-leb _ _ h)
 
-  pub after_not : length out < at + length bytes → after out at bytes ≡ at
+  pub after_not : length out < at + length bytes → after out at bytes ≡ None
   unfolding after
   after_not h = rw (lt-leb _ _ h)
 
-  -- Where bytes are put, the answer tells whether there was room.
-  pub no_room : 1 ≤ length bytes → after out at bytes ≡ at → length out < at + length bytes
+  -- The answer tells whether there was room.
+  pub no_room : ◌≡◌ {A = Option ℕ} None (after out at bytes) → length out < at + length bytes
   unfolding after
-  no_room h e = go (room out at bytes) refl e
+  no_room e = go (room out at bytes) refl e
     where
-      go : (t : Bool) → room out at bytes ≡ t → cond t (at + length bytes) at ≡ at → length out < at + length bytes
-      go true p q = absurd (grown q)
-        where
-          grown : at + length bytes ≡ at → ⊥
-          grown r = omega arith
+      go : (t : Bool) → room out at bytes ≡ t → ◌≡◌ {A = Option ℕ} None (cond t (Some (at + length bytes)) None) → length out < at + length bytes
+      go true p q = cc
       go false p q = leb-false _ _ p
 
-  pub had_room : (after out at bytes ≡ at → ⊥) → at + length bytes ≤ length out
+  pub had_room : (r : ℕ) → Some r ≡ after out at bytes → (at + length bytes ≤ length out) × (r ≡ at + length bytes)
   unfolding after
-  had_room n = go (room out at bytes) refl n
+  had_room r e = go (room out at bytes) refl e
     where
-      go : (t : Bool) → room out at bytes ≡ t → (cond t (at + length bytes) at ≡ at → ⊥) → at + length bytes ≤ length out
-      go true p q = leb-true _ _ p
-      go false p q = absurd (q refl)
+      go : (t : Bool) → room out at bytes ≡ t → Some r ≡ cond t (Some (at + length bytes)) None → (at + length bytes ≤ length out) × (r ≡ at + length bytes)
+      go true p q = (leb-true _ _ p, (cc))
+      go false p q = cc
 
 -- ---- a number, its last digit first
 

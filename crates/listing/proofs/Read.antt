@@ -11,6 +11,7 @@ use lib.ListN.{length, drop, get_or}
 use Rattle.listing.specs.Line.{fields, first, is_digit, all, is_number, decimal_after, decimal, are_numbers, value, is_byte, as_options, as_name, as_set, as_round, by_letter, parsed}
 use Rattle.listing.specs.declared.line.Line.{Line}
 use Rattle.listing.specs.declared.line.Line.TheVariants.{Options, Name, Set, Round, Other}
+use Rattle.listing.proofs.Lines.{line_short}
 use Rattle.listing.proofs.Fields.{fields_cons, fields_space, fields_byte, fields_last, fields_more}
 
 both : (s t : Bool) → (s && t) ≡ true → (s ≡ true) × (t ≡ true)
@@ -145,6 +146,14 @@ is_n : (f : List ℕ) → is_byte 110 f ≡ true → f ≡ 110 ∷ []
 is_n [] e = absurd (true≢false (sym e))
 is_n (b ∷ []) e = ap (λ (n : ℕ). n ∷ []) (eqb-true b 110 e)
 is_n (b ∷ d ∷ f) e = absurd (true≢false (sym e))
+
+-- There is room in front of it.
+pub name_long : (line : List ℕ) → parsed line ≡ Name → 2 ≤ length line
+name_long line e = go (ltb (length line) 2) refl
+  where
+    go : (t : Bool) → ltb (length line) 2 ≡ t → 2 ≤ length line
+    go true h = let z = sym e ∙ line_short line (ltb-true _ _ h) in cc
+    go false h = ltb-false _ _ h
 
 -- The name of a name line is all that stands from its third byte on.
 pub name_line : (line : List ℕ) → parsed line ≡ Name → fields line ≡ (110 ∷ []) ∷ (drop 2 line ∷ [])

@@ -1,13 +1,7 @@
 -- The round lister: the lines that it reads.
-use Rattle.std.specs.Prelude.{ℕ, suc, ◌+◌, ◌*◌, ◌-◌, Bool, true, false, cond, ◌&&◌, List, [], ◌∷◌, leb, eqb, length, get_or}
+use Rattle.std.specs.Prelude.{ℕ, suc, ◌+◌, ◌*◌, ◌-◌, Bool, true, false, cond, ◌&&◌, List, [], ◌∷◌, leb, eqb, length, get_or, Option, Some, None}
 use Rattle.listing.specs.declared.line.Line.{Line}
 use Rattle.listing.specs.declared.line.Line.TheVariants.{Options, Name, Set, Round, Other}
-use Rattle.listing.specs.declared.line.Number.{Number}
-use Rattle.listing.specs.declared.line.Number.TheVariants.{Is, None}
-use Rattle.listing.specs.declared.line.Three.{Three}
-use Rattle.listing.specs.declared.line.Three.TheVariants.{Are, None as Fewer}
-use Rattle.listing.specs.declared.line.End.{End}
-use Rattle.listing.specs.declared.line.End.TheVariants.{At, Nowhere}
 
 abbrev pub in_front : ℕ → List (List ℕ) → List (List ℕ)
 in_front b [] = (b ∷ []) ∷ []
@@ -42,8 +36,8 @@ abbrev pub decimal : List ℕ → ℕ
 decimal ds = decimal_after 0 ds
 
 -- The first field of s, which stands at place `at`, as a number, with the place after it.
-unfoldable pub number_from : ℕ → List ℕ → Number
-number_from at s = cond (is_number (first s)) (Is (decimal (first s)) (at + length (first s))) None
+unfoldable pub number_from : ℕ → List ℕ → Option (ℕ × ℕ)
+number_from at s = cond (is_number (first s)) (Some (decimal (first s), at + length (first s))) None
 
 -- n fields, each of them a number
 abbrev pub are_numbers : ℕ → List (List ℕ) → Bool
@@ -52,8 +46,8 @@ are_numbers n fs = all is_number fs && eqb (length fs) n
 abbrev pub value : List (List ℕ) → ℕ → ℕ
 value fs i = decimal (get_or fs i [])
 
-unfoldable pub three_in : List (List ℕ) → Three
-three_in fs = cond (are_numbers 3 fs) (Are (value fs 0) (value fs 1) (value fs 2)) Fewer
+unfoldable pub three_in : List (List ℕ) → Option (ℕ × ℕ × ℕ)
+three_in fs = cond (are_numbers 3 fs) (Some (value fs 0, value fs 1, value fs 2)) None
 
 -- `o` cycle, period, grace: the fields after the letter.
 unfoldable pub as_options : List (List ℕ) → Line
@@ -87,6 +81,6 @@ abbrev pub parsed : List ℕ → Line
 parsed line = by_letter (fields line)
 
 -- Each line ended by a line feed (10): the place of the first in s, which stands at place `at`.
-unfoldable pub line_end : ℕ → List ℕ → End
-line_end at [] = Nowhere
-line_end at (b ∷ bs) = cond (eqb b 10) (At at) (line_end (suc at) bs)
+unfoldable pub line_end : ℕ → List ℕ → Option ℕ
+line_end at [] = None
+line_end at (b ∷ bs) = cond (eqb b 10) (Some at) (line_end (suc at) bs)

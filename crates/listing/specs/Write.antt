@@ -1,5 +1,5 @@
 -- The round lister: the lines that it writes.
-use Rattle.std.specs.Prelude.{ℕ, zero, suc, ◌+◌, ◌/◌, ◌%◌, ◌≤◌, Bool, cond, List, map, [], ◌∷◌, ◌++◌, ◌≡◌, leb, ltb, length, take, drop}
+use Rattle.std.specs.Prelude.{ℕ, zero, suc, ◌+◌, ◌/◌, ◌%◌, ◌≤◌, Bool, cond, List, map, [], ◌∷◌, ◌++◌, ◌≡◌, leb, ltb, length, take, drop, Option, Some, None}
 
 -- The digits of n, at most `most` of them before the last.
 unfoldable pub digits_of : ℕ → ℕ → List ℕ
@@ -23,9 +23,9 @@ room out at bytes = leb (at + length bytes) (length out)
 unfoldable pub written : List ℕ → ℕ → List ℕ → List ℕ
 written out at bytes = cond (room out at bytes) (placed out at bytes) out
 
--- The place after them, or the place itself where they are not written.
-unfoldable pub after : List ℕ → ℕ → List ℕ → ℕ
-after out at bytes = cond (room out at bytes) (at + length bytes) at
+-- The place after them, or none where they are not written.
+unfoldable pub after : List ℕ → ℕ → List ℕ → Option ℕ
+after out at bytes = cond (room out at bytes) (Some (at + length bytes)) None
 
 abbrev pub spaced : List (List ℕ) → List ℕ
 spaced [] = []
@@ -48,7 +48,7 @@ numbers_of ms boundary count tags = ms ∷ cond boundary 1 0 ∷ count ∷ tags
 unfoldable pub line_of : ℕ → Bool → List ℕ → List ℕ
 line_of ms boundary tags = fields_of (numbers_of ms boundary (length tags) tags) ++ (10 ∷ [])
 
--- The bytes put from the start of a buffer on, and r after them; where they do not fit, r is 0 and nothing is said of the buffer.
-pub record Put (out end bytes : List ℕ) (r : ℕ) : Type 0 where
+-- The bytes put from the start of a buffer on, and r after them; where they do not fit, r is `None` and nothing is said of the buffer.
+pub record Put (out end bytes : List ℕ) (r : Option ℕ) : Type 0 where
   pub place : r ≡ after out 0 bytes
   pub held : length bytes ≤ length out → end ≡ written out 0 bytes

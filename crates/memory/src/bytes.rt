@@ -1,4 +1,5 @@
-// Numbers as bytes, the low byte first.
+// Numbers as bytes, the low byte first. A half and a word each have functions of their own: one function for any count of
+// bytes would have a loop, a bound on the count and powers of 256, where these say it in a line for each byte.
 ghost use Rattle.std.specs.Prelude.{◌≡◌, ◌+◌, ◌<◌, ◌/◌, ◌%◌, length, get_or, set};
 ghost use Rattle.memory.specs.Cells.{quad_at, cells_in};
 ghost use Rattle.memory.specs.Halves.{halves_in};
@@ -24,10 +25,7 @@ pub fn word(s: &[u8], i: usize) -> u64
     requires { i < length s.now / 8 }
     ensures { result ≡ get_or (cells_in s.now) i 0 }
 {
-    let at = 8 * i;
-    let a = quad(s, at);
-    let b = quad(s, at + 4);
-    a + b * 0x1_0000_0000
+    quad(s, 8 * i) + quad(s, 8 * i + 4) * 0x1_0000_0000
 }
 
 pub fn put_word(s: &mut [u8], i: usize, v: u64)
@@ -45,18 +43,12 @@ pub fn put_word(s: &mut [u8], i: usize, v: u64)
     s[at + 7] = (v / 0x100_0000_0000_0000 % 256) as u8;
 }
 
-fn size(x: u8) -> usize
-    ensures { (result ≡ x % 256) × (result < 256) }
-{
-    x as usize
-}
-
 pub fn half(s: &[u8], i: usize) -> usize
     requires { i < length s.now / 2 }
     ensures { result ≡ get_or (halves_in s.now) i 0 }
 {
     let at = 2 * i;
-    size(s[at]) + size(s[at + 1]) * 0x100
+    (wide(s[at]) + wide(s[at + 1]) * 0x100) as usize
 }
 
 pub fn put_half(s: &mut [u8], i: usize, v: usize)

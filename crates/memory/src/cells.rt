@@ -8,9 +8,10 @@ pub fn cell(s: &[u8], i: usize) -> u64
     ensures { result ≡ get_or (cells_in s.now) i 0 }
 {
     if i < s.len() / 8 {
-        return bytes::word(s, i);
+        bytes::word(s, i)
+    } else {
+        0
     }
-    0
 }
 
 pub fn put_cell(s: &mut [u8], i: usize, v: u64)

@@ -8,9 +8,10 @@ pub fn half(s: &[u8], i: usize) -> usize
     ensures { result ≡ get_or (halves_in s.now) i 0 }
 {
     if i < s.len() / 2 {
-        return bytes::half(s, i);
+        bytes::half(s, i)
+    } else {
+        0
     }
-    0
 }
 
 pub fn put_half(s: &mut [u8], i: usize, v: usize)

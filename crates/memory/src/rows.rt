@@ -12,10 +12,8 @@ pub fn row(s: &[u8], k: usize) -> [u64; 32]
     if s.len() / 256 <= k {
         return w;
     }
-    let mut j: usize = 0;
-    while j < 32 {
+    for j in 0..32 {
         w[j] = bytes::word(s, 32 * k + j);
-        j += 1;
     }
     w
 }
@@ -26,11 +24,8 @@ pub fn put_row(s: &mut [u8], k: usize, w: [u64; 32])
     if s.len() / 256 <= k {
         return;
     }
-    let mut j: usize = 0;
-    while j < 32 {
-        let v = w[j];
-        bytes::put_word(s, 32 * k + j, v);
-        j += 1;
+    for j in 0..32 {
+        bytes::put_word(s, 32 * k + j, w[j]);
     }
 }
 
@@ -38,22 +33,17 @@ pub fn put_row(s: &mut [u8], k: usize, w: [u64; 32])
 pub fn row_cell(s: &[u8], k: usize, j: usize) -> u64
     ensures { result ≡ get_or (get_or (rows_in s.now) k no_row) j 0 }
 {
-    if k < s.len() / 256 {
-        if j < 32 {
-            return bytes::word(s, 32 * k + j);
-        }
+    if k < s.len() / 256 && j < 32 {
+        bytes::word(s, 32 * k + j)
+    } else {
+        0
     }
-    0
 }
 
 pub fn put_row_cell(s: &mut [u8], k: usize, j: usize, v: u64)
     ensures { rows_in s.new ≡ set (rows_in s.old) k (set (get_or (rows_in s.old) k no_row) j v) }
 {
-    if s.len() / 256 <= k {
-        return;
+    if k < s.len() / 256 && j < 32 {
+        bytes::put_word(s, 32 * k + j, v);
     }
-    if 32 <= j {
-        return;
-    }
-    bytes::put_word(s, 32 * k + j, v);
 }

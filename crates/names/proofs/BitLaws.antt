@@ -9,8 +9,8 @@ use borrow.Author.Tests.{eqb-true, leb-true, ltb-true, lt-ltb, ne_eqb}
 use lib.Dec.{eqb, leb, ltb}
 use lib.Seq.{drop-append-add}
 use lib.ListN.{length, drop, length-append}
+use Rattle.std.specs.Prelude.{Some, None}
 use Rattle.names.specs.Bits.{last_dot, all_digits, split_bit}
-use Rattle.names.specs.declared.bits.Bit.TheVariants.{Plain, Word}
 
 -- a name s cut at a dot: its word has w bytes, and one or more digits follow
 pub record Split (s : List ℕ) (w : ℕ) : Type 0 where
@@ -44,7 +44,7 @@ unfolding last_dot
 dot_last [] digits at last e = dot_none digits (suc at) at e ∙ omega arith
 dot_last (x ∷ word) digits at last e = dot_last word digits (suc at) (cond (eqb x 46) at last) e ∙ omega arith
 
-pub split_word : (s : List ℕ) (w : ℕ) → Split s w → split_bit s ≡ Word w
+pub split_word : (s : List ℕ) (w : ℕ) → Split s w → split_bit s ≡ Some w
 unfolding split_bit
 split_word s w p =
     let place : last_dot 0 0 s ≡ w = rw p.whole (dot_last p.word p.digits 0 0 p.plain ∙ omega (arith, p.size)) in
@@ -80,12 +80,12 @@ dot_inside s at r d = rw d.whole (simp length-append (omega (arith, d.place)))
 pub dot_within : (s : List ℕ) → (last_dot 0 0 s ≡ 0 → ⊥) → last_dot 0 0 s < length s
 dot_within s n = ⊎_elim (λ p. absurd (n p)) (λ d. omega (arith, dot_inside s 0 (last_dot 0 0 s) d)) (dot_at s 0 0)
 
-pub word_split : (s : List ℕ) (w : ℕ) → split_bit s ≡ Word w → Split s w
+pub word_split : (s : List ℕ) (w : ℕ) → split_bit s ≡ Some w → Split s w
 unfolding split_bit
 word_split s w e =
     go (last_dot 0 0 s) (dot_at s 0 0) (ltb 0 (last_dot 0 0 s)) refl (ltb (last_dot 0 0 s + 1) (length s)) refl (all_digits (drop (last_dot 0 0 s + 1) s)) refl e
   where
-    no : {A : Type 0} → Plain ≡ Word w → A
+    no : {A : Type 0} → None ≡ Some w → A
     no p = let z : true ≡ false = cc in absurd (true≢false z)
 
     none : {A : Type 0} (r : ℕ) → r ≡ 0 → 0 < r → A
@@ -102,7 +102,7 @@ word_split s w e =
         record { word = d.word; digits = d.rest; whole = d.whole; size = size ∙ p; some = omega arith; more = omega arith; plain = rw rest at plain }
 
     go : (r : ℕ) → (r ≡ 0) ⊎ DotAt s 0 r → (a : Bool) → ltb 0 r ≡ a → (b : Bool) → ltb (r + 1) (length s) ≡ b → (c : Bool) → all_digits (drop (r + 1) s) ≡ c
-        → cond (a && (b && c)) (Word r) Plain ≡ Word w → Split s w
+        → cond (a && (b && c)) (Some r) None ≡ Some w → Split s w
     go r d false p1 b p2 c p3 q = no q
     go r d true p1 false p2 c p3 q = no q
     go r d true p1 true p2 false p3 q = no q
@@ -110,8 +110,8 @@ word_split s w e =
     go r (inr d) true p1 true p2 true p3 q = made r d (cc) (ltb-true _ _ p1) (ltb-true _ _ p2) p3
 
 -- a name that is no bit's has no such cut
-pub plain_split : (s : List ℕ) → split_bit s ≡ Plain → (w : ℕ) → Split s w → ⊥
+pub plain_split : (s : List ℕ) → split_bit s ≡ None → (w : ℕ) → Split s w → ⊥
 plain_split s e w p =
-    let q : split_bit s ≡ Word w = split_word s w p in
+    let q : split_bit s ≡ Some w = split_word s w p in
     let z : true ≡ false = cc in
     true≢false z

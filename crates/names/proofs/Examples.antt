@@ -2,12 +2,11 @@
 use mathlib.Core.Path.{◌≡◌, refl}
 use mathlib.Core.List.{List, [], ◌∷◌}
 use Prim.Native.Nat.{ℕ}
+use Rattle.std.specs.Prelude.{Some, None}
 use Rattle.names.specs.Order.{compared, lower_of}
 use Rattle.names.specs.Bits.{last_dot, all_digits, split_bit}
 use Rattle.names.specs.Directory.{cut, names_of, good_ends, good_bytes, good_names, rising_from, rising, directory_check, max_names, max_name_length}
 use Rattle.names.specs.Keys.{below, key_of, find, word_of}
-use Rattle.names.specs.declared.bits.Bit.TheVariants.{Plain, Word}
-use Rattle.names.specs.declared.keys.Found.TheVariants.{At, Nowhere}
 
 -- A, C, b, d
 four : List ℕ
@@ -52,19 +51,19 @@ unfolding four cut below compared lower_of
 keys = (refl, refl)
 
 -- W.1, .1, W., W.a, W.1.2, a
-bits : (split_bit (87 ∷ 46 ∷ 49 ∷ []) ≡ Word 1)
-    × ((split_bit (46 ∷ 49 ∷ []) ≡ Plain)
-    × ((split_bit (87 ∷ 46 ∷ []) ≡ Plain)
-    × ((split_bit (87 ∷ 46 ∷ 97 ∷ []) ≡ Plain) × ((split_bit (87 ∷ 46 ∷ 49 ∷ 46 ∷ 50 ∷ []) ≡ Word 3) × (split_bit (97 ∷ []) ≡ Plain)))))
+bits : (split_bit (87 ∷ 46 ∷ 49 ∷ []) ≡ Some 1)
+    × ((split_bit (46 ∷ 49 ∷ []) ≡ None)
+    × ((split_bit (87 ∷ 46 ∷ []) ≡ None)
+    × ((split_bit (87 ∷ 46 ∷ 97 ∷ []) ≡ None) × ((split_bit (87 ∷ 46 ∷ 49 ∷ 46 ∷ 50 ∷ []) ≡ Some 3) × (split_bit (97 ∷ []) ≡ None)))))
 unfolding split_bit last_dot all_digits
 bits = (refl, (refl, (refl, (refl, (refl, refl)))))
 
 -- W and W.1: the word of tag 1 is tag 0
-word : word_of (names_of (87 ∷ 87 ∷ 46 ∷ 49 ∷ []) (1 ∷ 4 ∷ [])) 1 ≡ At 0
+word : word_of (names_of (87 ∷ 87 ∷ 46 ∷ 49 ∷ []) (1 ∷ 4 ∷ [])) 1 ≡ Some 0
 unfolding cut split_bit last_dot all_digits find compared
 word = refl
 
 -- W.1 alone: its word is outside the directory
-outside : word_of (names_of (87 ∷ 46 ∷ 49 ∷ []) (3 ∷ [])) 0 ≡ Nowhere
+outside : word_of (names_of (87 ∷ 46 ∷ 49 ∷ []) (3 ∷ [])) 0 ≡ None
 unfolding cut split_bit last_dot all_digits find compared
 outside = refl

@@ -1,7 +1,7 @@
 -- Each definition that goes along a list, at the place where a loop stands: one element more, and the end.
-use mathlib.Core.Path.{◌≡◌, refl, sym, ◌∙◌}
+use mathlib.Core.Path.{◌≡◌, refl, ◌∙◌}
 use mathlib.Core.Bool.{Bool, true, false, cond, ◌&&◌}
-use mathlib.Core.List.{List, map, map-id, [], ◌∷◌}
+use mathlib.Core.List.{List, map, [], ◌∷◌}
 use Prim.Native.Nat.{ℕ, ◌+◌, ◌-◌, ◌≤◌, ◌<◌}
 use native.Mathlib.Numerals.{add-one}
 use native.Mathlib.Omega.{arith}
@@ -9,17 +9,12 @@ use borrow.Author.Tests.{lt-ltb, le-ltb, le-leb, lt-leb}
 use lib.Dec.{ltb, leb, eqb}
 use lib.ListN.{length, drop, get_or, drop_of_length-le}
 use lib.Seq.{drop-cons}
-use Rattle.names.specs.Order.{compared, compared_low, case_of, lower_of, is_less, is_same}
+use Rattle.std.specs.Prelude.{Some, None}
+use Rattle.std.proofs.Common.{Ordering, Less, Equal, Greater}
+use Rattle.names.specs.Order.{compared, compared_low, lower_of, is_less, is_same}
 use Rattle.names.specs.Bits.{last_dot, all_digits}
 use Rattle.names.specs.Directory.{good_ends, good_bytes, rising_from, rising}
 use Rattle.names.specs.Keys.{below, find}
-use Rattle.names.specs.declared.order.Order.{Order}
-use Rattle.names.specs.declared.order.Order.TheVariants.{Less, Same, Greater}
-use Rattle.names.specs.declared.keys.Found.TheVariants.{At, Nowhere}
-
--- nothing is left past the end
-drop_past {ℓ} : {A : Type ℓ} (l : List A) (i : ℕ) → length l ≤ i → drop i l ≡ []
-drop_past l i h = drop_of_length-le l h
 
 -- ---- comparing
 
@@ -28,15 +23,8 @@ abbrev pub cased : Bool → ℕ → ℕ
 cased lowered b = cond lowered (lower_of b) b
 
 -- what is left to compare, with f at each byte
-abbrev pub left_at : (ℕ → ℕ) → List ℕ → List ℕ → ℕ → Order
+abbrev pub left_at : (ℕ → ℕ) → List ℕ → List ℕ → ℕ → Ordering
 left_at f a b i = compared (map f (drop i a)) (map f (drop i b))
-
-case_map : (lowered : Bool) (s : List ℕ) → case_of lowered s ≡ map (cased lowered) s
-case_map true s = refl
-case_map false s = sym (map-id s)
-
-pub left_start : (lowered : Bool) (a b : List ℕ) → compared (case_of lowered a) (case_of lowered b) ≡ left_at (cased lowered) a b 0
-left_start lowered a b = rw (case_map lowered a, case_map lowered b)
 
 module _ (f : ℕ → ℕ) (a b : List ℕ) (i : ℕ) where
   compared_more : i < length a → i < length b
@@ -46,15 +34,15 @@ module _ (f : ℕ → ℕ) (a b : List ℕ) (i : ℕ) where
 
   pub compared_long : i < length a → length b ≤ i → left_at f a b i ≡ Greater
   unfolding compared
-  compared_long h k = rw (drop-cons a i 0 h, drop_past b i k)
+  compared_long h k = rw (drop-cons a i 0 h, drop_of_length-le b k)
 
   pub compared_short : length a ≤ i → i < length b → left_at f a b i ≡ Less
   unfolding compared
-  compared_short h k = rw (drop-cons b i 0 k, drop_past a i h)
+  compared_short h k = rw (drop-cons b i 0 k, drop_of_length-le a h)
 
-  pub compared_end : length a ≤ i → length b ≤ i → left_at f a b i ≡ Same
+  pub compared_end : length a ≤ i → length b ≤ i → left_at f a b i ≡ Equal
   unfolding compared
-  compared_end h k = rw (drop_past a i h, drop_past b i k)
+  compared_end h k = rw (drop_of_length-le a h, drop_of_length-le b k)
 
   -- what a test of the two bytes at i makes of it
   pub compared_less : i < length a → i < length b → f (get_or a i 0) < f (get_or b i 0) → left_at f a b i ≡ Less
@@ -74,7 +62,7 @@ dot_more s i last h = rw (drop-cons s i 0 h, add-one)
 
 pub dot_end : (s : List ℕ) (i last : ℕ) → length s ≤ i → last_dot i last (drop i s) ≡ last
 unfolding last_dot
-dot_end s i last h = rw (drop_past s i h)
+dot_end s i last h = rw (drop_of_length-le s h)
 
 pub digits_more : (s : List ℕ) (i : ℕ) → i < length s → all_digits (drop i s) ≡ (leb 48 (get_or s i 0) && (leb (get_or s i 0) 57 && all_digits (drop (i + 1) s)))
 unfolding all_digits
@@ -82,7 +70,7 @@ digits_more s i h = rw (drop-cons s i 0 h, add-one)
 
 pub digits_end : (s : List ℕ) (i : ℕ) → length s ≤ i → all_digits (drop i s) ≡ true
 unfolding all_digits
-digits_end s i h = rw (drop_past s i h)
+digits_end s i h = rw (drop_of_length-le s h)
 
 -- ---- checks 2 to 4
 
@@ -115,7 +103,7 @@ module _ (long size at i : ℕ) (ends : List ℕ) (h : i < length ends) where
 
 pub ends_end : (long size at i : ℕ) (ends : List ℕ) → length ends ≤ i → good_ends long at (drop i ends) size ≡ eqb at size
 unfolding good_ends
-ends_end long size at i ends h = rw (drop_past ends i h)
+ends_end long size at i ends h = rw (drop_of_length-le ends h)
 
 pub bytes_more : (s : List ℕ) (i : ℕ) → i < length s → good_bytes (drop i s) ≡ (leb 33 (get_or s i 0) && (leb (get_or s i 0) 126 && good_bytes (drop (i + 1) s)))
 unfolding good_bytes
@@ -123,7 +111,7 @@ bytes_more s i h = rw (drop-cons s i 0 h, add-one)
 
 pub bytes_end : (s : List ℕ) (i : ℕ) → length s ≤ i → good_bytes (drop i s) ≡ true
 unfolding good_bytes
-bytes_end s i h = rw (drop_past s i h)
+bytes_end s i h = rw (drop_of_length-le s h)
 
 pub rising_start : (ns : List (List ℕ)) → rising ns ≡ rising_from (get_or ns 0 []) (drop 1 ns)
 unfolding rising rising_from
@@ -139,7 +127,7 @@ rising_more ns i a b t h p q r =
 
 pub rising_end : (ns : List (List ℕ)) (before : List ℕ) (i : ℕ) → length ns ≤ i → rising_from before (drop i ns) ≡ true
 unfolding rising_from
-rising_end ns before i h = rw (drop_past ns i h)
+rising_end ns before i h = rw (drop_of_length-le ns h)
 
 -- ---- keys and words
 
@@ -150,13 +138,13 @@ below_more m n ns i t h p q = rw (drop-cons ns i [] h, ← p, ← q, add-one)
 
 pub below_end : (m : List ℕ) (ns : List (List ℕ)) (i : ℕ) → length ns ≤ i → below m (drop i ns) ≡ 0
 unfolding below
-below_end m ns i h = rw (drop_past ns i h)
+below_end m ns i h = rw (drop_of_length-le ns h)
 
 pub find_more : (x n : List ℕ) (ns : List (List ℕ)) (i : ℕ) (t : Bool) → i < length ns → n ≡ get_or ns i [] → t ≡ is_same (compared n x)
-    → find x i (drop i ns) ≡ cond t (At i) (find x (i + 1) (drop (i + 1) ns))
+    → find x i (drop i ns) ≡ cond t (Some i) (find x (i + 1) (drop (i + 1) ns))
 unfolding find
 find_more x n ns i t h p q = rw (drop-cons ns i [] h, ← p, ← q, add-one)
 
-pub find_end : (x : List ℕ) (ns : List (List ℕ)) (i : ℕ) → length ns ≤ i → find x i (drop i ns) ≡ Nowhere
+pub find_end : (x : List ℕ) (ns : List (List ℕ)) (i : ℕ) → length ns ≤ i → find x i (drop i ns) ≡ None
 unfolding find
-find_end x ns i h = rw (drop_past ns i h)
+find_end x ns i h = rw (drop_of_length-le ns h)

@@ -6,38 +6,37 @@ use Prim.Native.Nat.{ℕ, ◌≤◌, ◌<◌}
 use native.Mathlib.Omega.{arith}
 use borrow.Author.Tests.{lt-ltb, le-ltb, ltb-true, ltb-false}
 use lib.Dec.{ltb}
+use Rattle.std.proofs.Common.{Ordering, Less, Equal, Greater}
 use Rattle.names.specs.Order.{compared, is_less, is_same}
-use Rattle.names.specs.declared.order.Order.{Order}
-use Rattle.names.specs.declared.order.Order.TheVariants.{Less, Same, Greater}
 
 -- a claim by the three answers
-pub by_order : {C : Type 0} (o : Order) → (o ≡ Less → C) → (o ≡ Same → C) → (o ≡ Greater → C) → C
+pub by_order : {C : Type 0} (o : Ordering) → (o ≡ Less → C) → (o ≡ Equal → C) → (o ≡ Greater → C) → C
 by_order Less f g k = f refl
-by_order Same f g k = g refl
+by_order Equal f g k = g refl
 by_order Greater f g k = k refl
 
 -- the answer, from a test of it
-pub is_less_lem : (o : Order) → is_less o ≡ true → o ≡ Less
+pub is_less_lem : (o : Ordering) → is_less o ≡ true → o ≡ Less
 is_less_lem Less e = refl
-is_less_lem Same e = cc
+is_less_lem Equal e = cc
 is_less_lem Greater e = cc
 
-pub is_same_lem : (o : Order) → is_same o ≡ true → o ≡ Same
+pub is_same_lem : (o : Ordering) → is_same o ≡ true → o ≡ Equal
 is_same_lem Less e = cc
-is_same_lem Same e = refl
+is_same_lem Equal e = refl
 is_same_lem Greater e = cc
 
 -- two first bytes, and how the rest compares
-abbrev head : ℕ → ℕ → Order → Order
+abbrev head : ℕ → ℕ → Ordering → Ordering
 head x y r = cond (ltb x y) Less (cond (ltb y x) Greater r)
 
-head_less : (x y : ℕ) (r : Order) → x < y → head x y r ≡ Less
+head_less : (x y : ℕ) (r : Ordering) → x < y → head x y r ≡ Less
 head_less x y r h = simp (lt-ltb _ _ h)
 
-head_greater : (x y : ℕ) (r : Order) → y < x → head x y r ≡ Greater
+head_greater : (x y : ℕ) (r : Ordering) → y < x → head x y r ≡ Greater
 head_greater x y r h = simp (le-ltb x y (omega arith), lt-ltb _ _ h)
 
-head_same : (x y : ℕ) (r : Order) → x ≡ y → head x y r ≡ r
+head_same : (x y : ℕ) (r : Ordering) → x ≡ y → head x y r ≡ r
 head_same x y r e = simp (le-ltb x y (omega arith), le-ltb y x (omega arith))
 
 -- a claim by how two numbers stand
@@ -52,12 +51,12 @@ by_numbers {C = C} x y f g k = go (ltb x y) refl (ltb y x) refl
         let q : x ≤ y = ltb-false _ _ d in
         k (omega arith)
 
-pub compared_refl : (a : List ℕ) → compared a a ≡ Same
+pub compared_refl : (a : List ℕ) → compared a a ≡ Equal
 unfolding compared
 compared_refl [] = refl
 compared_refl (x ∷ xs) = head_same x x (compared xs xs) refl ∙ compared_refl xs
 
-pub same_equal : (a b : List ℕ) → compared a b ≡ Same → a ≡ b
+pub same_equal : (a b : List ℕ) → compared a b ≡ Equal → a ≡ b
 unfolding compared
 same_equal [] [] h = refl
 same_equal [] (y ∷ ys) h = cc

@@ -8,9 +8,9 @@ use native.Mathlib.Omega.{arith}
 use borrow.Author.Tests.{lt-ltb, le-ltb}
 use lib.Dec.{ltb}
 use lib.ListN.{length, get_or}
+use Rattle.std.proofs.Common.{Less}
 use Rattle.names.specs.Order.{compared, is_less}
 use Rattle.names.specs.Directory.{rising_from, rising}
-use Rattle.names.specs.declared.order.Order.TheVariants.{Less}
 use Rattle.names.proofs.OrderLaws.{by_numbers, compared_refl, is_less_lem, less_greater, less_trans}
 
 -- names after `before` are above it

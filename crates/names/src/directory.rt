@@ -12,15 +12,11 @@ pub const MAX_NAME_LENGTH: usize = 40;
 pub fn part(s: &[u8], from: usize, end: usize) -> &[u8]
     ensures { result.now ≡ piece from end s.now }
 {
-    let n = s.len();
-    if end <= from {
+    if end <= from || s.len() <= from {
         return &s[0..0];
     }
-    if n <= from {
-        return &s[0..0];
-    }
-    if n <= end {
-        return &s[from..n];
+    if s.len() <= end {
+        return &s[from..];
     }
     &s[from..end]
 }
@@ -32,12 +28,8 @@ pub fn name_of<'a>(names: &'a [u8], ends: &'a [u32], tag: usize) -> &'a [u8]
     if ends.len() <= tag {
         return part(names, 0, 0);
     }
-    let end = ends[tag] as usize;
-    if tag == 0 {
-        return part(names, 0, end);
-    }
-    let from = ends[tag - 1] as usize;
-    part(names, from, end)
+    let from = if tag == 0 { 0 } else { ends[tag - 1] as usize };
+    part(names, from, ends[tag] as usize)
 }
 
 // Check 2, for a buffer of a size: an end place that isn't above the one before falls back or gives length 0.
@@ -45,20 +37,12 @@ pub fn good_ends(ends: &[u32], size: usize) -> bool
     ensures { result ≡ good_ends max_name_length 0 ends.now size }
 {
     let mut at = 0;
-    let mut i = 0;
-    while i < ends.len() {
-        let end = ends[i] as usize;
-        if end <= at {
-            return false;
-        }
-        if size < end {
-            return false;
-        }
-        if MAX_NAME_LENGTH < end - at {
+    for place in ends {
+        let end = *place as usize;
+        if end <= at || size < end || MAX_NAME_LENGTH < end - at {
             return false;
         }
         at = end;
-        i += 1;
     }
     at == size
 }
@@ -67,16 +51,10 @@ pub fn good_ends(ends: &[u32], size: usize) -> bool
 pub fn good_bytes(names: &[u8]) -> bool
     ensures { result ≡ good_bytes names.now }
 {
-    let mut i = 0;
-    while i < names.len() {
-        let b = names[i];
-        if b < 33 {
+    for b in names {
+        if *b < 33 || 126 < *b {
             return false;
         }
-        if 126 < b {
-            return false;
-        }
-        i += 1;
     }
     true
 }
@@ -85,26 +63,19 @@ pub fn good_bytes(names: &[u8]) -> bool
 pub fn is_rising<'a>(names: &'a [u8], ends: &'a [u32]) -> bool
     ensures { result ≡ rising (names_of names.now ends.now) }
 {
-    let mut i = 1;
-    while i < ends.len() {
-        let before = name_of(names, ends, i - 1);
-        let name = name_of(names, ends, i);
-        if !less(before, name) {
+    for i in 1..ends.len() {
+        if !less(name_of(names, ends, i - 1), name_of(names, ends, i)) {
             return false;
         }
-        i += 1;
     }
     true
 }
 
-// 0, or the number of the check that refuses: the lowest that is met.
+// 0, or the number of the check that refuses: the lowest that is met. The C interface hands the number on.
 pub fn check_directory<'a>(names: &'a [u8], ends: &'a [u32]) -> u8
     ensures { result ≡ directory_check max_names max_name_length names.now ends.now }
 {
-    if ends.len() == 0 {
-        return 1;
-    }
-    if MAX_NAMES < ends.len() {
+    if ends.len() == 0 || MAX_NAMES < ends.len() {
         return 1;
     }
     if !good_ends(ends, names.len()) {

@@ -6,9 +6,10 @@ use Prim.Native.Nat.{ℕ, ◌<◌}
 use lib.Dec.{eqb}
 use lib.Ieee.{Float, le, add, binary64}
 use lib.ListN.{length, length-set}
+use Rattle.std.specs.Prelude.{Some, is_some}
 use Rattle.lists.specs.Keep.{Below}
 use Rattle.table.specs.Tag.{f0}
-use Rattle.table.specs.Table.{with_grace}
+use Rattle.table.specs.Table.{with_after}
 use Rattle.tiers.specs.Tiers.{grace_until, enter_grace, change_grace, set_tier}
 use Rattle.board.specs.Board.{Table, tag_at}
 use Rattle.tiers.specs.Listed.{Listed}
@@ -23,10 +24,10 @@ either n false x y p q = q
 module _ (T : Table) (l : Listed T) (k : ℕ) (h : k < length T.tags) where
   long_enter : (deadline : Float) (after : ℕ) → length (enter_grace T k deadline after).tags ≡ length T.tags
   unfolding enter_grace
-  long_enter deadline after = put_long T l k h 2 (grace_until deadline after)
+  long_enter deadline after = put_long T l k h 2 (Some (grace_until deadline after))
 
   long_change : (after : ℕ) → length (change_grace T k after).tags ≡ length T.tags
-  long_change after = length-set T.tags k (with_grace (tag_at T k) (grace_until (tag_at T k).grace.deadline after))
+  long_change after = length-set T.tags k (with_after (tag_at T k) after)
 
   -- Rule 5: a tier call keeps the number of tags.
   pub long_tier : (tier : ℕ) (grace clock : Float) → length (set_tier T k tier grace clock).tags ≡ length T.tags
@@ -38,7 +39,7 @@ module _ (T : Table) (l : Listed T) (k : ℕ) (h : k < length T.tags) where
       (either n (eqb tier 2) _ _ now
       (either n (le grace f0) _ _ now
       (either n (eqb (tag_at T k).tier 1) _ _ (long_enter (add binary64 clock grace) tier)
-      (either n (tag_at T k).grace.on _ _ (long_change tier) now))))
+      (either n (is_some (tag_at T k).grace) _ _ (long_change tier) now))))
 
 -- Rule 11: the table after loading
 pub loaded-listed : (T : Table) (ks ts : List ℕ) (grace clock : Float) → Below (length T.tags) ks → Listed T → Listed (loaded T ks ts grace clock)

@@ -10,6 +10,7 @@ use lib.Dec.{eqb, ltb}
 use lib.Ieee.{Float, le}
 use lib.ListN.{length, take, drop, length-append, length-map, length-set}
 use lib.Seq.{take_at, drop_at, take_all, get_or-set_same, get_or-set_other}
+use Rattle.std.specs.Prelude.{is_some}
 use Rattle.lists.specs.Keep.{count, Below}
 use Rattle.lists.proofs.KeepLaws.{below_more, count-append}
 use Rattle.lists.proofs.CountLaws.{length_few}
@@ -50,7 +51,7 @@ module _ (tags : List Tag) (order : List ℕ) (few : length order < 256) (low : 
 -- ---- one tier call
 
 -- a tag that has no tier and is in no grace enters at once
-at_once : (T : Table) (k tier : ℕ) (grace clock : Float) → (tag_at T k).tier ≡ 0 → (tag_at T k).grace.on ≡ false → set_tier T k tier grace clock ≡ set_table T k tier
+at_once : (T : Table) (k tier : ℕ) (grace clock : Float) → (tag_at T k).tier ≡ 0 → (is_some (tag_at T k).grace) ≡ false → set_tier T k tier grace clock ≡ set_table T k tier
 unfolding set_tier
 at_once T k tier grace clock z off = rw (z, off) (all (eqb tier 1) (eqb tier 2) (le grace f0) (set_table T k tier))
   where
@@ -87,7 +88,7 @@ module _ (T : Table) (k tier : ℕ) where
 record Ready (T : Table) (ks : List ℕ) : Type 0 where
   within : Below (length T.tags) ks
   once : (j : ℕ) → count j ks ≤ 1
-  out : (j : ℕ) → 0 < count j ks → ((tag_at T j).tier ≡ 0) × ((tag_at T j).grace.on ≡ false)
+  out : (j : ℕ) → 0 < count j ks → ((tag_at T j).tier ≡ 0) × ((is_some (tag_at T j).grace) ≡ false)
   free : length T.order + length ks ≤ T.room
 
 -- they have entered, with the tiers f says
@@ -109,7 +110,7 @@ module _ (f : ℕ → ℕ) (T : Table) (k : ℕ) (ks : List ℕ) (r : Ready T (k
   apart : (j : ℕ) → 0 < count j ks → j ≡ k → ⊥
   apart j h e = let z : count j ks ≡ 0 = ap (λ (i : ℕ). count i ks) e ∙ no_more in omega arith
 
-  first_out : ((tag_at T k).tier ≡ 0) × ((tag_at T k).grace.on ≡ false)
+  first_out : ((tag_at T k).tier ≡ 0) × ((is_some (tag_at T k).grace) ≡ false)
   first_out = r.out k (omega (arith, count_head k ks))
 
   module _ (n : f k ≡ 0 → ⊥) where

@@ -1,5 +1,5 @@
 -- Rule 11 and checks 51 to 55: the panel list.
-use Rattle.std.specs.Prelude.{Bool, true, false, cond, ◌||◌, not, List, map, [], ◌∷◌, ◌++◌, ◌≡◌, ℕ, ◌+◌, ◌*◌, ◌%◌, eqb, ltb, leb, Float, length, get_or, take, drop}
+use Rattle.std.specs.Prelude.{Bool, true, false, cond, ◌||◌, not, List, map, [], ◌∷◌, ◌++◌, ◌≡◌, ℕ, ◌+◌, ◌*◌, ◌%◌, eqb, ltb, leb, Float, length, get_or, take, drop, is_some}
 use Rattle.tags.specs.Lists.{member}
 use Rattle.table.specs.Tag.{fresh_tag}
 use Rattle.table.specs.declared.tag.Tag.{Tag}
@@ -74,9 +74,9 @@ loaded_list T s grace clock = loaded T (tags_of s) (tiers_of s) grace clock
 -- Check 56: no tag is in a tier; rule 5: nor then in grace
 pub record Empty (T : Table) : Type 0 where
   pub none : (k : ℕ) → (tag_at T k).tier ≡ 0
-  pub calm : (k : ℕ) → (tag_at T k).grace.on ≡ false
+  pub calm : (k : ℕ) → (is_some (tag_at T k).grace) ≡ false
   pub order_none : T.order ≡ []
 
 -- Rule 11: a tag in grace is stored as tier 2, its tier in the table
 abbrev pub Graced : Table → Type 0
-Graced T = (k : ℕ) → (tag_at T k).grace.on ≡ true → (tag_at T k).tier ≡ 2
+Graced T = (k : ℕ) → (is_some (tag_at T k).grace) ≡ true → (tag_at T k).tier ≡ 2

@@ -10,12 +10,10 @@ fn seen(list: &[u8], k: u8, n: usize) -> bool
     requires { n ≤ length (tags_of list.now) }
     ensures { result ≡ member k (take n (tags_of list.now)) }
 {
-    let mut i: usize = 0;
-    while i < n {
+    for i in 0..n {
         if tag_at(list, i) == k {
             return true;
         }
-        i += 1;
     }
     false
 }
@@ -23,19 +21,14 @@ fn seen(list: &[u8], k: u8, n: usize) -> bool
 fn bad_tier(tier: u8) -> bool
     ensures { result ≡ bad_tier tier }
 {
-    if 3 < tier {
-        return true;
-    }
-    tier == 0
+    3 < tier || tier == 0
 }
 
 // The first bad entry decides, and there the lowest number.
 fn check_entries(list: &[u8], count: usize) -> u8
     ensures { result ≡ entry_check count [] (tags_of list.now) (tiers_of list.now) }
 {
-    let n = entries(list);
-    let mut i: usize = 0;
-    while i < n {
+    for i in 0..entries(list) {
         let k = tag_at(list, i);
         if count <= k as usize {
             return 53;
@@ -46,7 +39,6 @@ fn check_entries(list: &[u8], count: usize) -> u8
         if bad_tier(tier_at(list, i)) {
             return 55;
         }
-        i += 1;
     }
     0
 }
@@ -55,11 +47,7 @@ fn check_entries(list: &[u8], count: usize) -> u8
 pub fn check_panel(list: &[u8], count: usize) -> u8
     ensures { result ≡ panel_check count list.now }
 {
-    if list.len() == 0 {
-        return 51;
-    }
-    let n = byte(list, 0) as usize;
-    if list.len() != 1 + 2 * n {
+    if list.len() == 0 || list.len() != 1 + 2 * (byte(list, 0) as usize) {
         return 51;
     }
     check_entries(list, count)

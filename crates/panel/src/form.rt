@@ -5,30 +5,24 @@ ghost use Rattle.panel.specs.Panel.{tags_of, tiers_of};
 pub fn byte(list: &[u8], p: usize) -> u8
     ensures { result ≡ get_or list.now p 0 }
 {
-    if p < list.len() {
-        return list[p];
-    }
-    0
+    if p < list.len() { list[p] } else { 0 }
 }
 
 pub fn tag_at(list: &[u8], i: usize) -> u8
     ensures { result ≡ get_or (tags_of list.now) i 0 }
 {
-    let n = byte(list, 0) as usize;
-    if i < n {
-        return byte(list, 1 + i);
+    if i < byte(list, 0) as usize {
+        byte(list, 1 + i)
+    } else {
+        0
     }
-    0
 }
 
 pub fn tier_at(list: &[u8], i: usize) -> u8
     ensures { result ≡ get_or (tiers_of list.now) i 0 }
 {
     let n = byte(list, 0) as usize;
-    if i < n {
-        return byte(list, 1 + n + i);
-    }
-    0
+    if i < n { byte(list, 1 + n + i) } else { 0 }
 }
 
 // How many tags have a tier byte: as many as the count byte says, or as far as the list goes.
@@ -37,10 +31,10 @@ pub fn entries(list: &[u8]) -> usize
 {
     let n = byte(list, 0) as usize;
     if list.len() <= 1 + n {
-        return 0;
+        0
+    } else if list.len() - (1 + n) < n {
+        list.len() - (1 + n)
+    } else {
+        n
     }
-    if list.len() - (1 + n) < n {
-        return list.len() - (1 + n);
-    }
-    n
 }

@@ -11,12 +11,7 @@ pub fn load_panel(b: &mut [u8], list: &[u8], grace: f64, clock: f64)
     requires { IsBoard b.old }
     ensures { Holds b.new (with_table (board_in b.old) (loaded_list (board_in b.old).table list.now grace clock)) }
 {
-    let n = entries(list);
-    let mut i: usize = 0;
-    while i < n {
-        let k = tag_at(list, i);
-        let tier = tier_at(list, i);
-        set_tier(b, k as u16, tier, grace, clock);
-        i += 1;
+    for i in 0..entries(list) {
+        set_tier(b, tag_at(list, i) as u16, tier_at(list, i), grace, clock);
     }
 }

@@ -13,15 +13,14 @@ fn byte_of(t: &[u8], order: &[u8], p: usize) -> u8
 {
     let n = count(order);
     if p == 0 {
-        return (n % 256) as u8;
+        (n % 256) as u8
+    } else if p <= n {
+        (at(order, p - 1) % 256) as u8
+    } else if p - n <= n {
+        tier_of(t, at(order, p - n - 1))
+    } else {
+        0
     }
-    if p <= n {
-        return (at(order, p - 1) % 256) as u8;
-    }
-    if p - n <= n {
-        return tier_of(t, at(order, p - n - 1));
-    }
-    0
 }
 
 // The list at the start of `out`, and its length. Where `out` is too short nothing is written, and 0 is answered.
@@ -33,10 +32,8 @@ pub fn write_panel(t: &[u8], order: &[u8], out: &mut [u8]) -> usize
     if out.len() < size {
         return 0;
     }
-    let mut p: usize = 0;
-    while p < size {
+    for p in 0..size {
         out[p] = byte_of(t, order, p);
-        p += 1;
     }
     size
 }

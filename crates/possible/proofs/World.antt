@@ -137,7 +137,8 @@ in_entries f = f world refl below_entries
 below_table : table.Below world
 below_table =
     in_memory memory.rows_put_row & in_memory memory.rows_row & in_words words.entry_held_from & in_words words.entry_held_words
-    & in_words words.scalar_float_of_word & in_words words.scalar_word_of_flag & in_words words.scalar_word_of_float & tt
+    & in_words words.scalar_float_of_word & in_words words.scalar_word_of_flag & in_words words.scalar_word_of_float & in_words words.time_time_from
+    & in_words words.time_time_words & tt
 
 in_table : {T : World → Type 0} → ((W : World) → Holds W "table" table.table → table.Below W → T W) → T world
 unfolding world
@@ -146,8 +147,9 @@ in_table f = f world refl below_table
 below_fields : fields.Below world
 below_fields =
     in_memory memory.rows_put_row_cell & in_memory memory.rows_row_cell & in_table table.codec_description_from
-    & in_table table.codec_description_word & in_table table.codec_grace_from & in_table table.codec_settings_from & in_table table.codec_timing_from
-    & in_words words.scalar_word_of_flag & in_words words.scalar_word_of_float & tt
+    & in_table table.codec_description_word & in_table table.codec_grace_from & in_table table.codec_grace_words & in_table table.codec_settings_from
+    & in_table table.codec_timing_from & in_words words.scalar_word_of_flag & in_words words.scalar_word_of_float & in_words words.time_time_words
+    & tt
 
 in_fields : {T : World → Type 0} → ((W : World) → Holds W "fields" fields.table → fields.Below W → T W) → T world
 unfolding world
@@ -155,8 +157,7 @@ in_fields f = f world refl below_fields
 
 below_groups : groups.Below world
 below_groups =
-    in_memory memory.cells_cell & in_memory memory.cells_put_cell & in_words words.scalar_float_of_word & in_words words.scalar_word_of_flag
-    & in_words words.scalar_word_of_float & tt
+    in_memory memory.cells_cell & in_memory memory.cells_put_cell & in_words words.time_time_from & in_words words.time_time_words & tt
 
 in_groups : {T : World → Type 0} → ((W : World) → Holds W "groups" groups.table → groups.Below W → T W) → T world
 unfolding world
@@ -244,7 +245,7 @@ below_tiers =
     in_board board.tag_added_of & in_board board.tag_forget & in_board board.tag_forget_last & in_board board.tag_grace_of & in_board board.tag_is_bit
     & in_board board.tag_put_after & in_board board.tag_put_standing & in_board board.tag_tier_of & in_board board.tag_wants_of
     & in_board board.tag_lists_push_grace & in_board board.tag_lists_push_order & in_board board.tag_lists_remove_grace
-    & in_board board.tag_lists_remove_order & in_table table.tag_Grace_none & tt
+    & in_board board.tag_lists_remove_order & tt
 
 in_tiers : {T : World → Type 0} → ((W : World) → Holds W "tiers" tiers.table → tiers.Below W → T W) → T world
 unfolding world
@@ -291,7 +292,8 @@ below_engine =
     in_heads heads.link_Link_fresh & in_heads heads.link_link_from & in_heads heads.link_link_words & in_heads heads.progress_Progress_fresh
     & in_heads heads.progress_progress_from & in_heads heads.progress_progress_words & in_heads heads.stats_Stats_fresh
     & in_heads heads.stats_stats_from & in_heads heads.stats_stats_words & in_memory memory.rows_put_row & in_memory memory.rows_put_row_cell
-    & in_memory memory.rows_row & in_words words.scalar_float_of_word & in_words words.scalar_word_of_flag & in_words words.scalar_word_of_float & tt
+    & in_memory memory.rows_row & in_words words.scalar_float_of_word & in_words words.scalar_word_of_float & in_words words.time_time_from
+    & in_words words.time_time_words & tt
 
 in_engine : {T : World → Type 0} → ((W : World) → Holds W "engine" engine.table → engine.Below W → T W) → T world
 unfolding world
@@ -502,8 +504,8 @@ below_capi =
     & in_fresh fresh.create & in_heads heads.link_stopped & in_panel panel.load_load_panel & in_replies replies.reply_Reply_refused
     & in_shown shown.counts_counts_of & in_shown shown.counts_no_counts & in_shown shown.head_no_state & in_shown shown.head_no_stats
     & in_shown shown.head_state_of & in_shown shown.head_stats_of & in_shown shown.list_looks_group_stats & in_shown shown.list_looks_listed
-    & in_shown shown.list_looks_panel & in_shown shown.list_looks_table & in_shown shown.tag_no_look & in_shown shown.tag_tag & in_tiers tiers.grace_set_tier
-    & in_words words.value_value_from & in_worker worker.steps_step & tt
+    & in_shown shown.list_looks_panel & in_shown shown.list_looks_table & in_shown shown.tag_no_look & in_shown shown.tag_tag
+    & in_tiers tiers.grace_set_tier & in_words words.value_value_from & in_worker worker.steps_step & tt
 
 in_capi : {T : World → Type 0} → ((W : World) → Holds W "capi" capi.table → capi.Below W → T W) → T world
 unfolding world

@@ -7,6 +7,7 @@ use native.Mathlib.Omega.{arith}
 use borrow.Author.Tests.{lt-ltb, le-ltb}
 use lib.ListN.{length, get_or, set, take, drop, length-take, length-drop, length-map, get_or-append, get_or-eq_default, get_or-map}
 use lib.Seq.{sets, take_all, take-nil, take-take, take-suc, take-suc-set, drop-drop, drop-set-add, drop-set-lt, get_or-take, get_or-drop, get_or-set_same, set_out}
+use Rattle.std.specs.Prelude.{Some}
 use Rattle.words.specs.Value.{value_from}
 use Rattle.memory.specs.Blocks.{blocks}
 use Rattle.memory.specs.Cells.{cells_in}
@@ -16,7 +17,6 @@ use Rattle.tags.specs.Lists.{pushed}
 use Rattle.tags.proofs.CollectLaws.{pushed_clipped}
 use Rattle.queue.specs.Queue.{write_from, no_write, queue_room, places_in, queue_in, queued_with, popped, rest, write_tags}
 use Rattle.queue.specs.declared.Write.{Write}
-use Rattle.queue.specs.declared.Popped.TheVariants.{Is}
 
 -- ---- what a queue is
 
@@ -39,7 +39,7 @@ take-length_of zero l = refl
 take-length_of (suc n) [] = refl
 take-length_of (suc n) (x ∷ l) = ap (λ (r : List Write). x ∷ r) (take-length_of n l)
 
-pub queue_places : (bs : List ℕ) → take (length (queue_in bs)) (places_in bs) ≡ queue_in bs
+queue_places : (bs : List ℕ) → take (length (queue_in bs)) (places_in bs) ≡ queue_in bs
 unfolding queue_in
 queue_places bs = take-length_of (get_or (cells_in bs) 0 0) (places_in bs)
 
@@ -121,11 +121,8 @@ cleared old new e = ap (λ (n : ℕ). take n (places_in new)) (ap (λ (cs : List
 
 -- ---- push
 
-pub queued_more : (n : ℕ) (ws : List Write) (w : Write) → length ws < n → queued_with n ws w ≡ ws ++ (w ∷ [])
+queued_more : (n : ℕ) (ws : List Write) (w : Write) → length ws < n → queued_with n ws w ≡ ws ++ (w ∷ [])
 queued_more n ws w h = rw (lt-ltb (length ws) n h)
-
-pub queued_full : (n : ℕ) (ws : List Write) (w : Write) → n ≤ length ws → queued_with n ws w ≡ ws
-queued_full n ws w h = rw (le-ltb (length ws) n h)
 
 pub push_put : (old mid new : List ℕ) (n : ℕ) (w : Write) → n ≡ length (queue_in old) → n < queue_room old → length mid ≡ length old → length new ≡ length mid
     → places_in mid ≡ set (places_in old) n w → cells_in new ≡ set (cells_in mid) 0 (n + 1) → queue_in new ≡ queued_with (queue_room old) (queue_in old) w
@@ -139,11 +136,7 @@ push_put old mid new n w len free same same2 put count =
 
 -- ---- pop
 
-pub popped_none : (ws : List Write) → length ws ≡ 0 → ws ≡ []
-popped_none [] h = refl
-popped_none (w ∷ ws) h = absurd (omega arith)
-
-pub popped-first : (ws : List Write) → 0 < length ws → popped ws ≡ Is (get_or ws 0 no_write)
+pub popped-first : (ws : List Write) → 0 < length ws → popped ws ≡ Some (get_or ws 0 no_write)
 popped-first [] h = absurd (omega arith)
 popped-first (w ∷ ws) h = refl
 
@@ -156,9 +149,6 @@ rest-take (suc n) (w ∷ ws) = let less : n ≡ suc n - 1 = omega arith in ap (�
 pub record Moving (i : ℕ) (old new : List Write) : Type 0 where
   pub front : take (i - 1) new ≡ take (i - 1) (drop 1 old)
   pub behind : drop i new ≡ drop i old
-
-pub moving_none : (ws : List Write) → Moving 1 ws ws
-moving_none ws = record { front = refl; behind = refl }
 
 module _ (i : ℕ) (old new : List Write) (r : Moving i old new) where
   moving_read : get_or new i no_write ≡ get_or old i no_write
@@ -209,6 +199,3 @@ module _ (n : ℕ) (ws : List Write) (i : ℕ) (o : List ℕ) (done : o ≡ take
       ∙ pushed_clipped n (take i tags) w.tag
       ∙ ap (λ (k : ℕ). take n (take i tags ++ (k ∷ []))) at
       ∙ ap (take n) (sym (ap (λ (m : ℕ). take m tags) (add-one i) ∙ take-suc tags i 0 (omega (arith, length-map ws (λ (x : Write). x.tag)))))
-
-  pub tags_all : length ws ≤ i → o ≡ take n (write_tags ws)
-  tags_all h = done ∙ ap (take n) (take_all i (write_tags ws) (omega (arith, length-map ws (λ (x : Write). x.tag))))

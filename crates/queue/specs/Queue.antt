@@ -1,12 +1,10 @@
 -- Rule 8: the writes that wait.
-use Rattle.std.specs.Prelude.{cond, List, [], ◌∷◌, ◌++◌, map, ℕ, ◌-◌, ◌/◌, ◌%◌, ltb, length, get_or, take, drop}
+use Rattle.std.specs.Prelude.{cond, List, [], ◌∷◌, ◌++◌, map, ℕ, ◌-◌, ◌/◌, ◌%◌, ltb, length, get_or, take, drop, Option, Some, None}
 use Rattle.values.specs.declared.value.Value.TheVariants.{Null}
 use Rattle.words.specs.Value.{value_from}
 use Rattle.memory.specs.Blocks.{blocks}
 use Rattle.memory.specs.Cells.{cells_in}
 use Rattle.queue.specs.declared.Write.{Write}
-use Rattle.queue.specs.declared.Popped.{Popped}
-use Rattle.queue.specs.declared.Popped.TheVariants.{Nothing, Is}
 
 -- the write that three cells hold: the tag, the value's kind and its bits
 unfoldable pub write_from : List ℕ → Write
@@ -37,9 +35,9 @@ abbrev pub queued_with : ℕ → List Write → Write → List Write
 queued_with n ws w = cond (ltb (length ws) n) (ws ++ (w ∷ [])) ws
 
 -- Rule 8: the first write, if there is one
-abbrev pub popped : List Write → Popped
-popped [] = Nothing
-popped (w ∷ ws) = Is w
+abbrev pub popped : List Write → Option Write
+popped [] = None
+popped (w ∷ ws) = Some w
 
 -- the writes behind it
 abbrev pub rest : List Write → List Write

@@ -17,22 +17,12 @@ pub struct Write {
     pub value: Value,
 }
 
-// The Rust's `Option<WriteRequest>`.
-#[derive(Clone, Copy)]
-pub enum Popped {
-    Nothing,
-    Is(Write),
-}
-
 // How many writes the slice has room for.
 pub fn room_of(q: &[u8]) -> usize
     ensures { result ≡ queue_room q.now }
 {
     let cells = q.len() / 8;
-    if cells == 0 {
-        return 0;
-    }
-    (cells - 1) / 3
+    if cells == 0 { 0 } else { (cells - 1) / 3 }
 }
 
 // The stored count; where that is above the places there are, all of them.
@@ -41,10 +31,7 @@ pub fn queued(q: &[u8]) -> usize
 {
     let n = cell(q, 0) as usize;
     let most = room_of(q);
-    if n < most {
-        return n;
-    }
-    most
+    if n < most { n } else { most }
 }
 
 fn place_at(q: &[u8], i: usize) -> Write
@@ -56,13 +43,9 @@ fn place_at(q: &[u8], i: usize) -> Write
             value: Value::Null,
         };
     }
-    let tag = cell(q, 3 * i + 1);
-    let kind = cell(q, 3 * i + 2);
-    let word = cell(q, 3 * i + 3);
-    let value = value_from(kind, word);
     Write {
-        tag: (tag % 65536) as u16,
-        value: value,
+        tag: (cell(q, 3 * i + 1) % 65536) as u16,
+        value: value_from(cell(q, 3 * i + 2), cell(q, 3 * i + 3)),
     }
 }
 
@@ -72,8 +55,7 @@ fn put_place(q: &mut [u8], i: usize, w: Write)
     if room_of(q) <= i {
         return;
     }
-    let value = w.value;
-    let v = value_words(value);
+    let v = value_words(w.value);
     put_cell(q, 3 * i + 1, w.tag as u64);
     put_cell(q, 3 * i + 2, v.kind);
     put_cell(q, 3 * i + 3, v.word);
@@ -83,12 +65,9 @@ fn put_place(q: &mut [u8], i: usize, w: Write)
 fn move_up(q: &mut [u8])
     ensures { take (length (queue_in q.old) - 1) (places_in q.new) ≡ rest (queue_in q.old) }
 {
-    let n = queued(q);
-    let mut i: usize = 1;
-    while i < n {
+    for i in 1..queued(q) {
         let w = place_at(q, i);
         put_place(q, i - 1, w);
-        i += 1;
     }
 }
 
@@ -110,18 +89,17 @@ pub fn push(q: &mut [u8], w: Write)
 }
 
 // The first write, taken out of the queue.
-pub fn pop(q: &mut [u8]) -> Popped
+pub fn pop(q: &mut [u8]) -> Option<Write>
     ensures { (result ≡ popped (queue_in q.old)) × (queue_in q.new ≡ rest (queue_in q.old)) }
 {
     let n = queued(q);
     if n == 0 {
-        return Popped::Nothing;
+        return None;
     }
-    let left = n - 1;
-    let w = place_at(q, 0);
+    let first = place_at(q, 0);
     move_up(q);
-    put_cell(q, 0, left as u64);
-    Popped::Is(w)
+    put_cell(q, 0, (n - 1) as u64);
+    Some(first)
 }
 
 // The tags of the writes that wait, in queue order, into `list`.
@@ -129,11 +107,7 @@ pub fn list_queued(q: &[u8], list: &mut [u8])
     ensures { list_in list.new ≡ fitted (room list.old) (write_tags (queue_in q.now)) }
 {
     tags::clear(list);
-    let n = queued(q);
-    let mut i: usize = 0;
-    while i < n {
-        let w = place_at(q, i);
-        tags::push(list, w.tag as usize);
-        i += 1;
+    for i in 0..queued(q) {
+        tags::push(list, place_at(q, i).tag as usize);
     }
 }

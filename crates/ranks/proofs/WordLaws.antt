@@ -5,10 +5,9 @@ use mathlib.Core.List.{List, []}
 use Prim.Native.Nat.{ℕ, ◌-◌, ◌%◌, ◌≤◌, ◌<◌}
 use native.Mathlib.Omega.{arith}
 use lib.ListN.{length, get_or}
+use Rattle.std.specs.Prelude.{Option, Some, None}
 use Rattle.names.specs.Bits.{split_bit, is_bit}
 use Rattle.names.specs.Keys.{word_of}
-use Rattle.names.specs.declared.keys.Found.{Found}
-use Rattle.names.specs.declared.keys.Found.TheVariants.{At, Nowhere}
 use Rattle.names.proofs.WordLaws.{word_other, word_inside}
 use Rattle.ranks.specs.Ranks.{over, found_code, word_code, words_of}
 use Rattle.ranks.proofs.Laws.{over-at, each_long, each_at_lem}
@@ -23,16 +22,16 @@ module _ (old : List ℕ) (ns : List (List ℕ)) (few : length ns ≤ length old
       over-at old (words_of ns) k (omega (arith, each_long (word_code ns) (length ns))) (omega (arith, each_long (word_code ns) (length ns)))
       ∙ each_at_lem (word_code ns) (length ns) k h
 
-  pub word_coded : 1 < code → word_of ns k ≡ At (code - 2)
+  pub word_coded : 1 < code → word_of ns k ≡ Some (code - 2)
   word_coded some = go (is_bit (split_bit (get_or ns k []))) (word_of ns k) refl code_is
     where
-      go : (b : Bool) (f : Found) → word_of ns k ≡ f → code ≡ cond b (found_code f) 0 % 65536 → word_of ns k ≡ At (code - 2)
+      go : (b : Bool) (f : Option ℕ) → word_of ns k ≡ f → code ≡ cond b (found_code f) 0 % 65536 → word_of ns k ≡ Some (code - 2)
       go false f e c = absurd (omega arith)
-      go true Nowhere e c = absurd (omega arith)
-      go true (At t) e c =
+      go true None e c = absurd (omega arith)
+      go true (Some t) e c =
           let inside : t < length ns = word_inside ns k t e in
           let t_is : t ≡ code - 2 = omega arith in
-          e ∙ ap At t_is
+          e ∙ ap Some t_is
 
   pub word_differs : 1 < code → code - 2 ≡ k → ⊥
   word_differs some = word_other ns k (code - 2) (word_coded some)

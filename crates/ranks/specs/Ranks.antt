@@ -1,10 +1,8 @@
 -- Rules 6 and 8: what the names say, as a two-byte number for each tag.
-use Rattle.std.specs.Prelude.{cond, List, [], ◌∷◌, map, ℕ, ◌+◌, ◌%◌, length, get_or}
+use Rattle.std.specs.Prelude.{cond, List, [], ◌∷◌, map, ℕ, ◌+◌, ◌%◌, length, get_or, Option, Some, None}
 use Rattle.lists.specs.Keep.{up_to}
 use Rattle.names.specs.Bits.{split_bit, is_bit}
 use Rattle.names.specs.Keys.{key_of, word_of}
-use Rattle.names.specs.declared.keys.Found.{Found}
-use Rattle.names.specs.declared.keys.Found.TheVariants.{At, Nowhere}
 
 -- the numbers xs over the first places of a list
 unfoldable pub over : List ℕ → List ℕ → List ℕ
@@ -12,9 +10,9 @@ over [] xs = []
 over (o ∷ os) [] = o ∷ os
 over (o ∷ os) (x ∷ xs) = x ∷ over os xs
 
-abbrev pub found_code : Found → ℕ
-found_code (At tag) = tag % 65536 + 2
-found_code Nowhere = 1
+abbrev pub found_code : Option ℕ → ℕ
+found_code (Some tag) = tag % 65536 + 2
+found_code None = 1
 
 -- Rule 8: 0 for a tag that is no bit, 1 for a bit whose word the directory lacks, and otherwise the word's tag and 2.
 abbrev pub word_code : List (List ℕ) → ℕ → ℕ

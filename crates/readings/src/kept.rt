@@ -41,8 +41,7 @@ fn apply_next(b: &mut [u8], sent: &mut [u8], k: usize, i: usize, start: f64, t: 
     requires sent_len_bound { length (list_in sent.old) < room sent.old }
     ensures { Applied (board_in b.old) (apply_next (applying b.old sent.old) k (result_in (board_in b.old).back i) start t false) b.new sent.new }
 {
-    let r = kept_at(b, i);
-    if apply_read(b, k, r, start, t) {
+    if apply_read(b, k, kept_at(b, i), start, t) {
         push(sent, k);
     }
 }
@@ -65,11 +64,9 @@ fn apply_listed(b: &mut [u8], sent: &mut [u8], start: f64, t: i64)
     let most = kept_count(b);
     let listed = asked_count(b);
     let n = if listed < most { listed } else { most };
-    let mut i: usize = 0;
-    while i < n {
+    for i in 0..n {
         let k = asked_at(b, i);
         apply_next(b, sent, k, i, start, t);
-        i += 1;
     }
 }
 

@@ -20,21 +20,15 @@ struct Places {
 fn places_of(s: &[u8], k: usize) -> Places
     ensures { Placed k (list_in s.now) result.hits result.sum }
 {
-    let n = count(s);
     let mut hits: u16 = 0;
     let mut sum: u16 = 0;
-    let mut i: usize = 0;
-    while i < n {
+    for i in 0..count(s) {
         let same = bytes::half(s, i + 1) == k;
         hits += same as u16;
         let here = if same { i as u16 } else { 0 };
         sum = sum.wrapping_add(here);
-        i += 1;
     }
-    Places {
-        hits: hits,
-        sum: sum,
-    }
+    Places { hits, sum }
 }
 
 // The tags behind place p move down, byte by byte: a compiler makes one move of it.
@@ -43,11 +37,8 @@ fn remove_at(s: &mut [u8], p: usize)
     ensures { list_in s.new ≡ take p (list_in s.old) ++ drop (suc p) (list_in s.old) }
 {
     let n = count(s);
-    let end = 2 * n;
-    let mut i = 2 * p + 2;
-    while i < end {
+    for i in 2 * p + 2..2 * n {
         s[i] = s[i + 2];
-        i += 1;
     }
     halves::put_half(s, 0, n - 1);
 }
@@ -56,16 +47,13 @@ fn remove_at(s: &mut [u8], p: usize)
 fn remove_each(s: &mut [u8], k: usize)
     ensures { list_in s.new ≡ without k (list_in s.old) }
 {
-    let n = count(s);
-    let mut j: usize = 0;
-    let mut i: usize = 0;
-    while i < n {
+    let mut j = 0;
+    for i in 0..count(s) {
         let x = bytes::half(s, i + 1);
         if x != k {
             bytes::put_half(s, j + 1, x);
             j += 1;
         }
-        i += 1;
     }
     halves::put_half(s, 0, j);
 }
@@ -75,12 +63,9 @@ pub fn remove(s: &mut [u8], k: usize)
     ensures { list_in s.new ≡ without k (list_in s.old) }
 {
     let found = places_of(s, k);
-    if found.hits == 0 {
-        return;
+    match found.hits {
+        0 => {}
+        1 => remove_at(s, found.sum as usize),
+        _ => remove_each(s, k),
     }
-    if found.hits == 1 {
-        remove_at(s, found.sum as usize);
-        return;
-    }
-    remove_each(s, k);
 }

@@ -1,52 +1,46 @@
-// One frame: the call is made, and its answer compared.
+// One frame: its call is made, and the answer compared. The frame, the memory and the list stay parameters: a struct that
+// held the two lent `&mut` was tried, and the proof of its methods did not close.
 use crate::{calls, looks};
-use frames::answer::{Answered, BEFORE, Found, compare, no_answer};
+use frames::answer::{BEFORE, Difference, compare};
+use frames::calls::Call;
 use frames::compare::fill;
-use frames::numbers::four;
+use frames::parts::{Malformed, Reader};
 
-fn call(op: u8, frame: &[u8], mem: &mut [u8], out: &mut [u8]) -> Answered {
-    match op {
-        1 => calls::create(frame, mem),
-        2 => calls::set_tier(frame, mem),
-        3 => calls::load(frame, mem),
-        4 => calls::write(frame, mem),
-        5 => calls::stop(mem),
-        6 => calls::step(frame, mem, out),
-        _ => look(op, frame, mem, out),
+// The call takes its numbers and lists from the frame, whose answer stands behind them.
+fn make(
+    call: Call,
+    mut frame: Reader,
+    mem: &mut [u8],
+    out: &mut [u8],
+) -> Result<usize, Difference> {
+    match call {
+        Call::Create => compare(&calls::create(&mut frame, mem)?, out, frame),
+        Call::SetTier => compare(&calls::set_tier(&mut frame, mem)?, out, frame),
+        Call::Load => compare(&calls::load(&mut frame, mem)?, out, frame),
+        Call::Write => compare(&calls::write(&mut frame, mem)?, out, frame),
+        Call::Stop => compare(&calls::stop(mem), out, frame),
+        Call::Step => compare(&calls::step(&mut frame, mem, out)?, out, frame),
+        Call::State => compare(&looks::state(mem), out, frame),
+        Call::Stats => compare(&looks::stats(mem), out, frame),
+        Call::TierCounts => compare(&looks::tier_counts(mem), out, frame),
+        Call::GroupStats => compare(&looks::group_stats(mem, out), out, frame),
+        Call::Table => compare(&looks::table(mem, out), out, frame),
+        Call::Panel => compare(&looks::panel(mem, out), out, frame),
+        Call::Tag => compare(&looks::tag(&mut frame, mem)?, out, frame),
     }
 }
 
-fn look(op: u8, frame: &[u8], mem: &[u8], out: &mut [u8]) -> Answered {
-    match op {
-        7 => looks::state(mem),
-        8 => looks::stats(mem),
-        9 => looks::tier_counts(mem),
-        10 => looks::group_stats(mem, out),
-        11 => looks::table(mem, out),
-        12 => looks::panel(mem, out),
-        13 => looks::tag(frame, mem),
-        _ => no_answer(frame),
-    }
-}
-
-fn call_with(op: u8, frame: &[u8], mem: &mut [u8], out: &mut [u8]) -> Found {
+// As much memory is lent, and a list as long, as the frame says.
+pub fn take(
+    call: Call,
+    mut frame: Reader,
+    mem: &mut [u8],
+    out: &mut [u8],
+) -> Result<usize, Difference> {
+    let m = frame.four()?;
+    let n = frame.four()?;
+    let mem = mem.get_mut(..m).ok_or(Malformed)?;
+    let out = out.get_mut(..n).ok_or(Malformed)?;
     fill(out, BEFORE);
-    let a = call(op, frame, mem, out);
-    let numbers = a.numbers;
-    compare(frame, a.at, &numbers, a.n, out)
-}
-
-pub fn take(frame: &[u8], mem: &mut [u8], out: &mut [u8]) -> Found {
-    if frame.len() < 9 {
-        return Found::Malformed;
-    }
-    let m = four(frame, 1);
-    let n = four(frame, 5);
-    if mem.len() < m {
-        return Found::Malformed;
-    }
-    if out.len() < n {
-        return Found::Malformed;
-    }
-    call_with(frame[0], frame, &mut mem[0..m], &mut out[0..n])
+    make(call, frame, mem, out)
 }

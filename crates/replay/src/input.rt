@@ -1,16 +1,26 @@
 // The frames of standard input, each behind its length.
 use crate::frame::take;
-use frames::answer::Found;
+use frames::answer::Difference;
+use frames::calls::Call;
 use frames::counts::Counts;
-use frames::numbers::{eight, four};
-use frames::report;
+use frames::numbers::eight;
+use frames::parts::Reader;
+use frames::report::{Ending, Report};
 use lent::changes::CHANGE;
 use names::directory::MAX_NAMES;
+use std::alloc::{AllocError, Global};
 use std::io;
 use std::io::{ErrorKind, Read};
 
-// The last frame, with the number of histories and of calls.
+// The last frame, with the number of histories and of calls. It names no call, so it stands beside `Call`.
 const END: u8 = 14;
+
+// Room for a frame, for an engine and some bytes more, and for the longest list and some bytes more.
+const ROOM: usize = 16384;
+
+const MEMORY: usize = 38408;
+
+const LIST: usize = MAX_NAMES * CHANGE + 8;
 
 // Fills the buffer; false where the input ends before.
 fn read_full(from: &mut impl Read, buffer: &mut [u8]) -> io::Result<bool> {
@@ -21,118 +31,95 @@ fn read_full(from: &mut impl Read, buffer: &mut [u8]) -> io::Result<bool> {
     }
 }
 
-// Reads a frame to the front of `room`: its length, or 0 where there is no whole one.
-fn read_frame(from: &mut impl Read, room: &mut [u8]) -> io::Result<usize> {
+// Reads a frame to the front of the room; none where there is no whole one.
+fn read_frame<'a>(from: &mut impl Read, room: &'a mut [u8]) -> io::Result<Option<&'a [u8]>> {
     let mut length = [0u8; 4];
     if !read_full(from, &mut length)? {
-        return Ok(0);
+        return Ok(None);
     }
-    let n = four(&length, 0);
-    if room.len() < n {
-        return Ok(0);
-    }
-    if !read_full(from, &mut room[0..n])? {
-        return Ok(0);
-    }
-    Ok(n)
-}
-
-fn at_end(from: &mut impl Read) -> io::Result<bool> {
-    let mut more = [0u8; 1];
-    Ok(!read_full(from, &mut more)?)
-}
-
-#[derive(Clone, Copy)]
-enum Next {
-    On(Counts),
-    End,
-}
-
-// The last frame: all that was recorded has been replayed, and nothing is behind it.
-fn end(rt: &impl Print, from: &mut impl Read, c: Counts, frame: &[u8]) -> io::Result<()> {
-    if eight(frame, 1) != c.histories {
-        return report::uneven(rt, c);
-    }
-    if eight(frame, 9) != c.calls {
-        return report::uneven(rt, c);
-    }
-    if !at_end(from)? {
-        return report::uneven(rt, c);
-    }
-    report::done(rt, c)
-}
-
-fn take_frame(
-    rt: &impl Print,
-    from: &mut impl Read,
-    c: Counts,
-    op: u8,
-    frame: &[u8],
-    mem: &mut [u8],
-    out: &mut [u8],
-) -> io::Result<Next> {
-    if op == END {
-        end(rt, from, c, frame)?;
-        return Ok(Next::End);
-    }
-    let d = c.next(op);
-    let f = take(frame, mem, out);
-    let Found::Same(n) = f else {
-        report::differs(rt, d, op, f)?;
-        return Ok(Next::End);
+    let Some(frame) = room.get_mut(..u32::from_le_bytes(length) as usize) else {
+        return Ok(None);
     };
-    Ok(Next::On(d.compared(n)))
+    Ok(read_full(from, frame)?.then_some(&*frame))
 }
 
-fn take_next(
-    rt: &impl Print,
-    from: &mut impl Read,
-    c: Counts,
-    room: &mut [u8],
-    mem: &mut [u8],
-    out: &mut [u8],
-) -> io::Result<Next> {
-    let n = read_frame(from, room)?;
-    if room.len() < n {
-        return Ok(Next::End);
-    }
-    if n == 0 {
-        report::cut(rt, c)?;
-        return Ok(Next::End);
-    }
-    take_frame(rt, from, c, room[0], &room[0..n], mem, out)
+// An input that is replayed, how far, and the memory and the list that calls are lent.
+#[derive(Drop)]
+pub struct Replay<I> {
+    from: I,
+    counts: Counts,
+    room: Vec<u8>,
+    mem: Vec<u8>,
+    out: Vec<u8>,
 }
 
-// A proved loop has to end, and nothing says that the input does: the turns are more than any run has.
-fn take_all(
-    rt: &impl Print,
-    from: &mut impl Read,
-    room: &mut [u8],
-    mem: &mut [u8],
-    out: &mut [u8],
-) -> io::Result<()> {
-    let mut c = Counts::new();
-    for _ in 0..u64::MAX {
-        let Next::On(d) = take_next(rt, from, c, room, mem, out)? else {
-            return Ok(());
+impl<I: Read> Replay<I> {
+    pub fn new(alloc: Global, from: I) -> Result<Replay<I>, AllocError>
+    where
+        I: Drop,
+    {
+        Ok(Replay {
+            from,
+            counts: Counts::default(),
+            room: vec![in alloc; 0u8; ROOM]?,
+            mem: vec![in alloc; 0u8; MEMORY]?,
+            out: vec![in alloc; 0u8; LIST]?,
+        })
+    }
+
+    // The last frame: all that was recorded has been replayed, and nothing is behind it.
+    fn end(&mut self, histories: u64, calls: u64) -> io::Result<Ending> {
+        let mut more = [0u8; 1];
+        if histories != self.counts.histories
+            || calls != self.counts.calls
+            || read_full(&mut self.from, &mut more)?
+        {
+            return Ok(Ending::Uneven);
+        }
+        Ok(Ending::Done)
+    }
+
+    // Replays a frame: how the replay ends, if it does so there.
+    fn next(&mut self) -> io::Result<Option<Ending>> {
+        let Some(frame) = read_frame(&mut self.from, &mut self.room)? else {
+            return Ok(Some(Ending::Cut));
         };
-        c = d;
+        let Some((n, fields)) = frame.split_first() else {
+            return Ok(Some(Ending::Cut));
+        };
+        if *n == END {
+            let histories = eight(fields, 0);
+            let calls = eight(fields, 8);
+            return self.end(histories, calls).map(Some);
+        }
+        let call = Call::try_from(*n).ok();
+        self.counts = self.counts.next(call);
+        let found = match call {
+            Some(call) => take(call, Reader::new(fields), &mut self.mem, &mut self.out),
+            None => Err(Difference::Malformed),
+        };
+        match found {
+            Ok(compared) => {
+                self.counts = self.counts.compared(compared);
+                Ok(None)
+            }
+            Err(difference) => Ok(Some(Ending::Differs { call, difference })),
+        }
     }
-    Ok(())
-}
 
-// Room for a frame, for an engine and some bytes more, and for the longest list and some bytes more.
-const ROOM: usize = 16384;
-
-const MEMORY: usize = 38408;
-
-const LIST: usize = MAX_NAMES * CHANGE + 8;
-
-// The first read or write that fails ends the replay.
-pub fn replay(rt: &(impl Input + Print)) -> io::Result<()> {
-    let mut from = rt.reader();
-    let mut room = [0u8; ROOM];
-    let mut mem = [0u8; MEMORY];
-    let mut out = [0u8; LIST];
-    take_all(rt, &mut from, &mut room, &mut mem, &mut out)
+    // A proved loop has to end, and nothing says that the input does: the turns are more than any run has.
+    pub fn run(&mut self) -> io::Result<Report> {
+        for _ in 0..u64::MAX {
+            if let Some(ending) = self.next()? {
+                return Ok(Report {
+                    counts: self.counts,
+                    ending,
+                });
+            }
+        }
+        Ok(Report {
+            counts: self.counts,
+            ending: Ending::Cut,
+        })
+    }
 }

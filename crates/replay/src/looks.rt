@@ -1,31 +1,17 @@
 // Looks.
 use crate::calls::small;
 use capi::looks::{wz_group_stats, wz_panel, wz_state, wz_stats, wz_table, wz_tag, wz_tier_counts};
-use frames::answer::Answered;
-use shown::head::StatsLook;
-use shown::list_looks::ListLook;
-use shown::tag::TagLook;
+use frames::parts::{Malformed, Reader};
 use words::scalar::{word_of_float, word_of_int};
 
-const FIRST: usize = 9;
-
-const SECOND: usize = 17;
-
-fn four_numbers(a: u64, b: u64, c: u64, d: u64) -> Answered {
-    Answered {
-        at: FIRST,
-        n: 4,
-        numbers: [a, b, c, d, 0, 0, 0, 0, 0, 0, 0],
-    }
-}
-
-pub fn state(mem: &[u8]) -> Answered {
+pub fn state(mem: &[u8]) -> [u64; 4] {
     let r = wz_state(mem);
-    four_numbers(r.code, r.state, r.known, r.version)
+    [r.code, r.state, r.known, r.version]
 }
 
-fn of_stats(r: StatsLook) -> Answered {
-    let numbers = [
+pub fn stats(mem: &[u8]) -> [u64; 9] {
+    let r = wz_stats(mem);
+    [
         r.code,
         r.timed,
         word_of_float(r.ms),
@@ -35,51 +21,32 @@ fn of_stats(r: StatsLook) -> Answered {
         r.overruns,
         r.reconnects,
         r.reloads,
-        0,
-        0,
-    ];
-    Answered {
-        at: FIRST,
-        n: 9,
-        numbers: numbers,
-    }
+    ]
 }
 
-pub fn stats(mem: &[u8]) -> Answered {
-    let r = wz_stats(mem);
-    of_stats(r)
-}
-
-pub fn tier_counts(mem: &[u8]) -> Answered {
+pub fn tier_counts(mem: &[u8]) -> [u64; 4] {
     let r = wz_tier_counts(mem);
-    four_numbers(r.code, r.tier1, r.tier2, r.tier3)
+    [r.code, r.tier1, r.tier2, r.tier3]
 }
 
-fn listed(r: ListLook) -> Answered {
-    Answered {
-        at: FIRST,
-        n: 2,
-        numbers: [r.code, r.count, 0, 0, 0, 0, 0, 0, 0, 0, 0],
-    }
-}
-
-pub fn group_stats(mem: &[u8], out: &mut [u8]) -> Answered {
+pub fn group_stats(mem: &[u8], out: &mut [u8]) -> [u64; 2] {
     let r = wz_group_stats(mem, out);
-    listed(r)
+    [r.code, r.count]
 }
 
-pub fn table(mem: &[u8], out: &mut [u8]) -> Answered {
+pub fn table(mem: &[u8], out: &mut [u8]) -> [u64; 2] {
     let r = wz_table(mem, out);
-    listed(r)
+    [r.code, r.count]
 }
 
-pub fn panel(mem: &[u8], out: &mut [u8]) -> Answered {
+pub fn panel(mem: &[u8], out: &mut [u8]) -> [u64; 2] {
     let r = wz_panel(mem, out);
-    listed(r)
+    [r.code, r.count]
 }
 
-fn of_tag(r: TagLook) -> Answered {
-    let numbers = [
+pub fn tag(frame: &mut Reader, mem: &[u8]) -> Result<[u64; 11], Malformed> {
+    let r = wz_tag(mem, small(frame)?);
+    Ok([
         r.code,
         r.tier,
         r.held,
@@ -91,15 +58,5 @@ fn of_tag(r: TagLook) -> Answered {
         r.has_g,
         r.g,
         r.description,
-    ];
-    Answered {
-        at: SECOND,
-        n: 11,
-        numbers: numbers,
-    }
-}
-
-pub fn tag(frame: &[u8], mem: &[u8]) -> Answered {
-    let r = wz_tag(mem, small(frame, FIRST));
-    of_tag(r)
+    ])
 }

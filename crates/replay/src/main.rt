@@ -7,8 +7,11 @@ mod frame; // one frame
 mod input; // the frames of the input
 mod looks; // looks
 
+use input::Replay;
 use std::io;
 
+// The first read or write that fails ends the replay.
 fn main(rt: HostRuntime) -> io::Result<()> {
-    input::replay(&rt)
+    let report = Replay::new(rt.alloc(), rt.reader())?.run()?;
+    println!(rt; "{report}")
 }

@@ -18,11 +18,9 @@ use writes::failing::fail_writes;
 pub fn phased(e: Engine, p: Phase, r: Reply) -> Said
     ensures { result ≡ said_in e p r }
 {
-    let progress = with_phase(e.progress, p);
-    let head = with_progress(e, progress);
     Said {
         reply: r,
-        head: head,
+        head: with_progress(e, with_phase(e.progress, p)),
     }
 }
 
@@ -32,8 +30,7 @@ pub fn failing(board: &mut [u8], out: &mut [u8], e: Engine, p: Phase) -> Said
     ensures { Done (failing (worker e (board_in board.old)) p) result board.new out.old out.new }
 {
     let n = fail_writes(board, out);
-    let r = Reply::listed(Reply::FAILED, n as u64);
-    phased(e, p, r)
+    phased(e, p, Reply::listed(Reply::FAILED, n as u64))
 }
 
 // The state is stopped; the writes left are told with this last event.
@@ -42,35 +39,36 @@ pub fn ended(board: &mut [u8], out: &mut [u8], e: Engine) -> Said
     ensures { Done (ended (worker e (board_in board.old))) result board.new out.old out.new }
 {
     let n = fail_writes(board, out);
-    let link = with_state(e.link, State::Stopped);
-    let next = with_link(e, link);
-    let r = Reply::listed(Reply::STOPPED, n as u64);
-    phased(next, Phase::Stopped, r)
+    let next = with_link(e, with_state(e.link, State::Stopped));
+    phased(
+        next,
+        Phase::Stopped,
+        Reply::listed(Reply::STOPPED, n as u64),
+    )
 }
 
 // The wait before the next attempt.
 pub fn backing_off(e: Engine) -> Said
     ensures { (B : Board) → Quietly (backing_off (worker e B)) result B }
 {
-    let old = e.link;
-    let r = Reply::wait(Engine::backoff(old.attempt));
-    let link = with_attempt(old, more(old.attempt));
-    let next = with_link(e, link);
-    phased(next, Phase::Backoff, r)
+    let attempt = e.link.attempt;
+    let next = with_link(e, with_attempt(e.link, more(attempt)));
+    phased(next, Phase::Backoff, Reply::wait(Engine::backoff(attempt)))
 }
 
 // Status is told only on change.
 pub fn disconnected(e: Engine) -> Said
     ensures { (B : Board) → Quietly (disconnected (worker e B)) result B }
 {
-    let old = e.link;
-    if is_state(old, State::Disconnected) {
+    if is_state(e.link, State::Disconnected) {
         return backing_off(e);
     }
-    let link = with_state(old, State::Disconnected);
-    let next = with_link(e, link);
-    let r = Reply::status(State::Disconnected);
-    phased(next, Phase::DisconnectedTold, r)
+    let next = with_link(e, with_state(e.link, State::Disconnected));
+    phased(
+        next,
+        Phase::DisconnectedTold,
+        Reply::status(State::Disconnected),
+    )
 }
 
 // Every cached tag not stale yet is marked stale.
@@ -82,8 +80,7 @@ pub fn staling(board: &mut [u8], out: &mut [u8], e: Engine) -> Said
     if n == 0 {
         return disconnected(e);
     }
-    let r = Reply::listed(Reply::VALUES, n as u64);
-    phased(e, Phase::StaleTold, r)
+    phased(e, Phase::StaleTold, Reply::listed(Reply::VALUES, n as u64))
 }
 
 // The connection is lost.
@@ -91,8 +88,7 @@ pub fn down(board: &mut [u8], out: &mut [u8], e: Engine) -> Said
     requires { IsBoard board.old }
     ensures { Done (down (worker e (board_in board.old))) result board.new out.old out.new }
 {
-    let link = e.link;
-    if link.stopping {
+    if e.link.stopping {
         return ended(board, out, e);
     }
     if queued(board) == 0 {
@@ -106,10 +102,8 @@ pub fn top(board: &mut [u8], out: &mut [u8], e: Engine) -> Said
     requires { IsBoard board.old }
     ensures { Done (top (worker e (board_in board.old))) result board.new out.old out.new }
 {
-    let link = e.link;
-    if link.stopping {
+    if e.link.stopping {
         return ended(board, out, e);
     }
-    let r = Reply::listed(Reply::CONNECT, 0);
-    phased(e, Phase::Connect, r)
+    phased(e, Phase::Connect, Reply::listed(Reply::CONNECT, 0))
 }

@@ -63,20 +63,27 @@ impl Reply {
 
     pub const STOPPED: u64 = 14;
 
+    // The constructors say what they set, and take the rest from here.
+    const NOTHING: Reply = Reply {
+        code: 0,
+        kind: 0,
+        count: 0,
+        tag: 0,
+        what: 0,
+        value: 0,
+        word: 0,
+        error: 0,
+        message: 0,
+        seconds: 0.0,
+    };
+
     pub fn listed(kind: u64, count: u64) -> Reply
         ensures { result ≡ listed kind count }
     {
         Reply {
-            code: 0,
-            kind: kind,
-            count: count,
-            tag: 0,
-            what: 0,
-            value: 0,
-            word: 0,
-            error: 0,
-            message: 0,
-            seconds: 0.0,
+            kind,
+            count,
+            ..Reply::NOTHING
         }
     }
 
@@ -85,16 +92,11 @@ impl Reply {
     {
         let v = value_words(value);
         Reply {
-            code: 0,
             kind: Reply::WRITE,
-            count: 0,
             tag: tag as u64,
-            what: 0,
             value: v.kind,
             word: v.word,
-            error: 0,
-            message: 0,
-            seconds: 0.0,
+            ..Reply::NOTHING
         }
     }
 
@@ -102,34 +104,19 @@ impl Reply {
         ensures { result ≡ wait seconds }
     {
         Reply {
-            code: 0,
             kind: Reply::WAIT,
-            count: 0,
-            tag: 0,
-            what: 0,
-            value: 0,
-            word: 0,
-            error: 0,
-            message: 0,
-            seconds: seconds,
+            seconds,
+            ..Reply::NOTHING
         }
     }
 
     pub fn status(state: State) -> Reply
         ensures { result ≡ status state }
     {
-        let n = state_number(state);
         Reply {
-            code: 0,
             kind: Reply::STATUS,
-            count: 0,
-            tag: 0,
-            what: n,
-            value: 0,
-            word: 0,
-            error: 0,
-            message: 0,
-            seconds: 0.0,
+            what: state_number(state),
+            ..Reply::NOTHING
         }
     }
 
@@ -138,16 +125,12 @@ impl Reply {
     {
         let v = value_words(value);
         Reply {
-            code: 0,
             kind: Reply::OUTCOME,
-            count: 0,
             tag: tag as u64,
             what: 0,
             value: v.kind,
             word: v.word,
-            error: 0,
-            message: 0,
-            seconds: 0.0,
+            ..Reply::NOTHING
         }
     }
 
@@ -155,16 +138,12 @@ impl Reply {
         ensures { result ≡ was_refused tag error message }
     {
         Reply {
-            code: 0,
             kind: Reply::OUTCOME,
-            count: 0,
             tag: tag as u64,
             what: 1,
-            value: 0,
-            word: 0,
-            error: error,
-            message: message,
-            seconds: 0.0,
+            error,
+            message,
+            ..Reply::NOTHING
         }
     }
 
@@ -172,16 +151,10 @@ impl Reply {
         ensures { result ≡ was_lost tag }
     {
         Reply {
-            code: 0,
             kind: Reply::OUTCOME,
-            count: 0,
             tag: tag as u64,
             what: 2,
-            value: 0,
-            word: 0,
-            error: 0,
-            message: 0,
-            seconds: 0.0,
+            ..Reply::NOTHING
         }
     }
 
@@ -190,16 +163,8 @@ impl Reply {
         ensures { result ≡ refused code }
     {
         Reply {
-            code: code,
-            kind: 0,
-            count: 0,
-            tag: 0,
-            what: 0,
-            value: 0,
-            word: 0,
-            error: 0,
-            message: 0,
-            seconds: 0.0,
+            code,
+            ..Reply::NOTHING
         }
     }
 }

@@ -1,14 +1,13 @@
 -- The results of a reply, and check 42.
-use Rattle.std.specs.Prelude.{Bool, true, false, ◌&&◌, ◌||◌, cond, List, ℕ, zero, suc, ◌+◌, ◌*◌, ◌/◌, min, ltb, length, get_or}
+use Rattle.std.specs.Prelude.{Bool, true, false, ◌&&◌, ◌||◌, cond, List, ℕ, zero, suc, ◌+◌, ◌*◌, ◌/◌, min, ltb, length, get_or, Option, Some, None}
 use Rattle.std.specs.Float.Ieee.Scale.{finite}
 use Rattle.values.specs.declared.value.Value.{Value}
 use Rattle.values.specs.declared.value.Value.TheVariants.{Null, Bool as Flag, Int, Float as Real}
-use Rattle.values.specs.declared.error.Error.{Error}
-use Rattle.values.specs.declared.error.Error.TheVariants.{None, Is}
 use Rattle.values.specs.declared.entry.TagResult.{TagResult}
 use Rattle.words.specs.Value.{value_from}
 use Rattle.words.specs.Error.{error_from}
 use Rattle.memory.specs.Cells.{cells_in}
+use Rattle.values.specs.declared.error.TagError.{TagError}
 
 -- how many results memory holds; each is four cells
 abbrev pub result_count : List ℕ → ℕ
@@ -31,9 +30,9 @@ value_ok (Flag b) = true
 value_ok (Int n) = true
 value_ok (Real x) = finite x
 
-abbrev pub is_error : Error → Bool
+abbrev pub is_error : Option TagError → Bool
 is_error None = false
-is_error (Is e) = true
+is_error (Some e) = true
 
 -- Check 42: where there is an error the value does not count.
 abbrev pub result_ok : TagResult → Bool

@@ -12,9 +12,7 @@ pub fn is_finite_value(v: Value) -> bool
     ensures { result ≡ value_ok v }
 {
     match v {
-        Value::Null => true,
-        Value::Bool(_) => true,
-        Value::Int(_) => true,
+        Value::Null | Value::Bool(_) | Value::Int(_) => true,
         Value::Float(x) => is_finite(x),
     }
 }
@@ -24,27 +22,24 @@ fn is_result_ok(results: &[u8], i: usize) -> bool
     requires { i < result_count results.now }
     ensures { result ≡ result_ok (result_in results.now i) }
 {
-    if cell(results, 4 * i + 2) != 0 {
-        return true;
-    }
-    if cell(results, 4 * i) != 3 {
+    let failed = cell(results, 4 * i + 2) != 0;
+    let float = cell(results, 4 * i) == 3;
+    if failed || !float {
         return true;
     }
     is_finite(float_of_word(cell(results, 4 * i + 1)))
 }
 
-// Of n results asked for, those that are there.
+// Of n results asked for, those that are there. Settings are checked by such a loop too, but neither crate stands on the other.
 pub fn check_results(results: &[u8], n: usize) -> bool
     ensures { result ≡ results_ok n results.now }
 {
     let held = results.len() / 32;
     let covered = if n < held { n } else { held };
-    let mut i: usize = 0;
-    while i < covered {
+    for i in 0..covered {
         if !is_result_ok(results, i) {
             return false;
         }
-        i += 1;
     }
     true
 }

@@ -4,7 +4,6 @@ ghost use Rattle.results.specs.Results.{result_in};
 
 use memory::cells::cell;
 use values::entry::TagResult;
-use values::error::Error;
 use values::value::Value;
 use words::error::error_from;
 use words::value::value_from;
@@ -15,17 +14,11 @@ pub fn result_at(s: &[u8], i: usize) -> TagResult
     if s.len() / 32 <= i {
         return TagResult {
             value: Value::Null,
-            error: Error::None,
+            error: None,
         };
     }
-    let kind = cell(s, 4 * i);
-    let word = cell(s, 4 * i + 1);
-    let failed = cell(s, 4 * i + 2);
-    let message = cell(s, 4 * i + 3);
-    let value = value_from(kind, word);
-    let error = error_from(failed, message);
     TagResult {
-        value: value,
-        error: error,
+        value: value_from(cell(s, 4 * i), cell(s, 4 * i + 1)),
+        error: error_from(cell(s, 4 * i + 2), cell(s, 4 * i + 3)),
     }
 }

@@ -9,7 +9,7 @@ use native.Mathlib.Omega.{arith}
 use borrow.Author.Tests.{ne_eqb}
 use lib.Dec.{eqb}
 use lib.ListN.{length, get_or, set, take, drop, drop_of_length-le}
-use lib.Seq.{take-append-add, drop-cons, set-get_or}
+use lib.Seq.{take-append-add, set-get_or}
 use Rattle.lists.specs.Keep.{keep, Below}
 use Rattle.lists.proofs.KeepLaws.{keep_append, below-append, below-keep}
 use Rattle.memory.proofs.LoopLaws.{mapped, mapped_read, mapped_more}
@@ -114,12 +114,6 @@ module _ (l : List Tag) (i : ℕ) (T : List Tag) (done : T ≡ mapped settled i 
 -- ---- whether a tag is new, looked for row by row
 
 module _ (l : List Tag) (i : ℕ) where
-  pub any_yes : i < length l → (get_or l i fresh_tag).added ≡ true → any_added (drop i l) ≡ true
-  any_yes h e = rw (drop-cons l i fresh_tag h, e)
-
-  pub any_no : i < length l → (get_or l i fresh_tag).added ≡ false → any_added (drop i l) ≡ any_added (drop (i + 1) l)
-  any_no h e = rw (add-one i, drop-cons l i fresh_tag h, e)
-
   pub any_end : length l ≤ i → any_added (drop i l) ≡ false
   any_end h = ap any_added (drop_of_length-le l {i = i} h)
 

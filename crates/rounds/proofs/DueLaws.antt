@@ -1,18 +1,19 @@
 -- What is recorded of due tags, one tag at a time.
 use mathlib.Core.Path.{◌≡◌, refl, ap, ◌∙◌}
-use mathlib.Core.Bool.{Bool, true, false, not}
+use mathlib.Core.Bool.{Bool}
 use mathlib.Core.List.{List, [], ◌∷◌}
 use Prim.Native.Nat.{ℕ, zero, suc, ◌+◌, ◌≤◌, ◌<◌}
 use native.Mathlib.Numerals.{add-one}
 use lib.Ieee.{Float}
 use lib.ListN.{length, get_or, set, drop, length-set, drop_of_length-le}
 use lib.Seq.{drop-cons}
+use Rattle.std.specs.Prelude.{Option}
 use Rattle.table.specs.Tag.{fresh_tag}
 use Rattle.table.specs.Table.{with_last}
-use Rattle.table.specs.declared.tag.Settings.{Settings}
+use Rattle.table.specs.declared.tag.GroupRate.{GroupRate}
 use Rattle.table.specs.declared.tag.Tag.{Tag}
-use Rattle.groups.specs.Groups.{Groups, noted}
-use Rattle.rounds.specs.Due.{marked, recorded_due}
+use Rattle.groups.specs.Groups.{Groups}
+use Rattle.rounds.specs.Due.{marked, recorded_due, seen_with, noted_due}
 
 -- ---- the last reading time
 
@@ -50,16 +51,10 @@ module _ {A : Type 0} (part : Tag → A) where
 -- ---- the groups
 
 module _ (tags : List Tag) (clock : Float) (seen : List Bool) (G : Groups) (l : List ℕ) (i : ℕ) where
-  pub recorded_yes : (s : Settings) → i < length l → s ≡ (get_or tags (get_or l i 0) fresh_tag).settings → s.grouped ≡ true
-      → recorded_due tags clock seen G (drop i l)
-      ≡ recorded_due tags clock (set seen s.group true) (noted G s.group s.rate clock (not (get_or seen s.group false))) (drop (i + 1) l)
+  pub recorded_more : (g : Option GroupRate) → i < length l → g ≡ (get_or tags (get_or l i 0) fresh_tag).settings.group
+      → recorded_due tags clock seen G (drop i l) ≡ recorded_due tags clock (seen_with seen g) (noted_due G seen g clock) (drop (i + 1) l)
   unfolding recorded_due
-  recorded_yes s h e f = rw (add-one i, drop-cons l i 0 h, ← e, f)
-
-  pub recorded_no : (s : Settings) → i < length l → s ≡ (get_or tags (get_or l i 0) fresh_tag).settings → s.grouped ≡ false
-      → recorded_due tags clock seen G (drop i l) ≡ recorded_due tags clock seen G (drop (i + 1) l)
-  unfolding recorded_due
-  recorded_no s h e f = rw (add-one i, drop-cons l i 0 h, ← e, f)
+  recorded_more g h e = rw (add-one i, drop-cons l i 0 h, e)
 
   pub recorded_end : length l ≤ i → recorded_due tags clock seen G (drop i l) ≡ G
   unfolding recorded_due

@@ -149,7 +149,6 @@ module _ (less : ℕ → ℕ → Bool) (T : Table) (l : Listed T) (clock half cy
   -- ---- named once
 
   due_once : (k : ℕ) → count k due ≤ cond (eqb (tag_at T k).tier 1) 1 0
-  unfolding is_due
   due_once k = tier_once T l due_now 1 (λ j e. eqb-true (tag_at T j).tier 1 (both_first (eqb (tag_at T j).tier 1) _ e)) k
 
   tier2_once : (k : ℕ) → count k tier2 ≤ cond (eqb (tag_at T k).tier 2) 1 0

@@ -58,7 +58,6 @@ module _ (tags : List Tag) (order : List ℕ) (clock half cycle : Float) where
   read = marked tags clock due
 
   apart : (k : ℕ) → is_due (get_or tags k fresh_tag) clock half cycle ≡ true → is_tier2 read k ≡ false
-  unfolding is_due
   apart k e =
       let tier = (get_or tags k fresh_tag).tier in
       let one : tier ≡ 1 = eqb-true tier 1 (both_first (eqb tier 1) _ e) in

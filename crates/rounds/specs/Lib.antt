@@ -6,3 +6,4 @@ pub mod Added
 pub mod Missing
 pub mod Round
 pub mod Memory
+pub mod Collect

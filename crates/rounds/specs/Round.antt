@@ -1,5 +1,5 @@
 -- Rule 6: a round.
-use Rattle.std.specs.Prelude.{Bool, true, cond, List, ◌++◌, map, ℕ, Float}
+use Rattle.std.specs.Prelude.{Bool, cond, List, ◌++◌, map, ℕ, Float, Some}
 use Rattle.std.specs.Float.{binary64}
 use Rattle.std.specs.Float.Ieee.{div}
 use Rattle.ieee.specs.Round.{float, slices_of}
@@ -36,7 +36,7 @@ pub record Round : Type 0 where
 
 -- Rule 6: at a boundary the last boundary is now.
 abbrev pub cycle_after : Cycle → Bool → Float → ℕ → Cycle
-cycle_after c boundary clock index = cond boundary (record { begun = true; last = clock; index = index }) (record { begun = c.begun; last = c.last; index = index })
+cycle_after c boundary clock index = record { last = cond boundary (Some clock) c.last; index = index }
 
 -- Rule 6, whole. `less` is the order of the slices, by lower-cased name.
 unfoldable pub round : (ℕ → ℕ → Bool) → Options → Polling → Float → Round

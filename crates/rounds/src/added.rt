@@ -8,20 +8,16 @@ use fields::{added_of, put_added};
 use tags::{contains, push};
 
 // The tags new in tier 2 that `list` does not have, by tag number, after what it has. A list can hold
-// tags below 65536.
+// tags below 65536. No `collect`: the test reads the list that grows, which a closure could not.
 pub fn list_added(t: &[u8], list: &mut [u8])
     ensures { list_in list.new ≡ fitted (room list.old) (with_added_tags (table_in t.now) (list_in list.old) (by_rank (table_in t.now))) }
 {
     let rows = t.len() / 256;
     let n = if rows < 65536 { rows } else { 65536 };
-    let mut k: usize = 0;
-    while k < n {
-        if added_of(t, k) {
-            if !contains(list, k) {
-                push(list, k);
-            }
+    for k in 0..n {
+        if added_of(t, k) && !contains(list, k) {
+            push(list, k);
         }
-        k += 1;
     }
 }
 
@@ -29,13 +25,10 @@ pub fn list_added(t: &[u8], list: &mut [u8])
 pub fn any_added(t: &[u8]) -> bool
     ensures { result ≡ any_added (table_in t.now) }
 {
-    let n = t.len() / 256;
-    let mut k: usize = 0;
-    while k < n {
+    for k in 0..t.len() / 256 {
         if added_of(t, k) {
             return true;
         }
-        k += 1;
     }
     false
 }
@@ -44,12 +37,9 @@ pub fn any_added(t: &[u8]) -> bool
 pub fn settle(t: &mut [u8])
     ensures { table_in t.new ≡ map settled (table_in t.old) }
 {
-    let n = t.len() / 256;
-    let mut k: usize = 0;
-    while k < n {
+    for k in 0..t.len() / 256 {
         if added_of(t, k) {
             put_added(t, k, false);
         }
-        k += 1;
     }
 }

@@ -7,51 +7,38 @@ ghost use Rattle.board.specs.Layout.{IsBoard};
 ghost use Rattle.board.specs.Board.{Holds, board_in, with_groups};
 ghost use Rattle.rounds.specs.Due.{is_due, due_tags, marked, recorded_due, none_seen};
 
-use super::tick::rate_of;
+use super::collect::collect;
+use super::tick::{is_due_since, rate_of};
 use board::recording::note;
 use fields::{put_last, settings_of, tier_of, timing_of};
-use tags::{at, clear, count, push};
+use tags::{at, count};
 
 // A tag that was never read is always due.
 pub fn is_tag_due(t: &[u8], k: usize, clock: f64, half: f64, cycle: f64) -> bool
     ensures { result ≡ is_due (get_or (table_in t.now) k fresh_tag) clock half cycle }
 {
-    if tier_of(t, k) != 1 {
-        return false;
-    }
-    let m = timing_of(t, k);
-    if !m.read {
-        return true;
-    }
-    let s = settings_of(t, k);
-    ieee::times::is_due(clock, half, m.last, rate_of(s, cycle))
+    tier_of(t, k) == 1
+        && is_due_since(
+            timing_of(t, k).last,
+            clock,
+            half,
+            rate_of(settings_of(t, k), cycle),
+        )
 }
 
 // The due tags, in table order, into `list`.
 pub fn list_due(t: &[u8], order: &[u8], list: &mut [u8], clock: f64, half: f64, cycle: f64)
     ensures { list_in list.new ≡ fitted (room list.old) (due_tags (table_in t.now) (list_in order.now) clock half cycle) }
 {
-    clear(list);
-    let n = count(order);
-    let mut i: usize = 0;
-    while i < n {
-        let k = at(order, i);
-        if is_tag_due(t, k, clock, half, cycle) {
-            push(list, k);
-        }
-        i += 1;
-    }
+    collect(order, list, |k| is_tag_due(t, k, clock, half, cycle));
 }
 
 // The last reading time of each tag of `list`.
 pub fn mark_due(t: &mut [u8], list: &[u8], clock: f64)
     ensures { table_in t.new ≡ marked (table_in t.old) clock (list_in list.now) }
 {
-    let n = count(list);
-    let mut i: usize = 0;
-    while i < n {
+    for i in 0..count(list) {
         put_last(t, at(list, i), clock);
-        i += 1;
     }
 }
 
@@ -61,15 +48,10 @@ pub fn record_due(b: &mut [u8], list: &[u8], clock: f64)
     ensures { Holds b.new (with_groups (board_in b.old) (recorded_due (board_in b.old).table.tags clock none_seen (board_in b.old).groups (list_in list.now))) }
 {
     let mut seen = [false; 256];
-    let n = count(list);
-    let mut i: usize = 0;
-    while i < n {
-        let s = board::tag::settings_of(b, at(list, i));
-        if s.grouped {
-            let g = s.group as usize;
-            note(b, s.group, s.rate, clock, !seen[g]);
-            seen[g] = true;
+    for i in 0..count(list) {
+        if let Some(g) = board::tag::settings_of(b, at(list, i)).group {
+            note(b, g.number, g.rate, clock, !seen[g.number as usize]);
+            seen[g.number as usize] = true;
         }
-        i += 1;
     }
 }

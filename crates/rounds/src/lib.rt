@@ -2,6 +2,7 @@
 #![tactic(auto)]
 
 pub mod added;
+mod collect;
 pub mod due;
 pub mod graces;
 pub mod missing;

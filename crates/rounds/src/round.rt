@@ -31,17 +31,9 @@ pub struct CycleTags {
 fn cycle_after(c: Cycle, boundary: bool, clock: f64, index: u64) -> Cycle
     ensures { result ≡ cycle_after c boundary clock index }
 {
-    if boundary {
-        return Cycle {
-            begun: true,
-            last: clock,
-            index: index,
-        };
-    }
     Cycle {
-        begun: c.begun,
-        last: c.last,
-        index: index,
+        last: if boundary { Some(clock) } else { c.last },
+        index,
     }
 }
 
@@ -73,9 +65,9 @@ fn list_round(b: &mut [u8], wanted: &mut [u8], clock: f64)
         list_added(table_of(b), wanted);
         drop_missing(b, wanted, clock);
         settle_in(b);
-        return;
+    } else {
+        drop_missing(b, wanted, clock);
     }
-    drop_missing(b, wanted, clock);
 }
 
 // The round, with two lists to work in. The due tags and the slice are tags of the order in different tiers, and the new ones
@@ -93,19 +85,17 @@ fn cycle_in(
     requires max_names_bound_2 { 2 * max_names ≤ room wanted.old }
     ensures { Worked (board_in b.old) (round_of (board_in b.old) o c clock) result b.new }
 {
-    let cycle = o.cycle;
-    let tick = tick_in(b, cycle);
+    let tick = tick_in(b, o.cycle);
     let half = tick / 2.0;
-    let boundary = is_boundary(c, clock, half, cycle);
+    let boundary = is_boundary(c, clock, half, o.cycle);
     expire(b, wanted, clock, boundary);
-    read_due(b, wanted, clock, half, cycle);
+    read_due(b, wanted, clock, half, o.cycle);
     let index = take_slice_in(b, sorted, wanted, o, c.index, boundary);
     list_round(b, wanted, clock);
-    let after = cycle_after(c, boundary, clock, index);
     CycleTags {
-        tick: tick,
-        boundary: boundary,
-        cycle: after,
+        tick,
+        boundary,
+        cycle: cycle_after(c, boundary, clock, index),
     }
 }
 

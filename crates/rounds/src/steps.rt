@@ -40,8 +40,7 @@ pub fn mark_due_in(b: &mut [u8], list: &[u8], clock: f64)
     requires { IsBoard b.old }
     ensures { Holds b.new (with_records (board_in b.old) (marked (board_in b.old).table.tags clock (list_in list.now))) }
 {
-    let start = table_start(b);
-    let end = order_start(b);
+    let (start, end) = (table_start(b), order_start(b));
     mark_due(&mut b[start..end], list, clock);
 }
 
@@ -78,7 +77,6 @@ pub fn settle_in(b: &mut [u8])
     requires { IsBoard b.old }
     ensures { Holds b.new (with_records (board_in b.old) (map settled (board_in b.old).table.tags)) }
 {
-    let start = table_start(b);
-    let end = order_start(b);
+    let (start, end) = (table_start(b), order_start(b));
     settle(&mut b[start..end]);
 }

@@ -2,7 +2,7 @@
 ghost use Rattle.std.specs.Prelude.{◌≡◌};
 ghost use Rattle.tags.specs.Lists.{list_in};
 ghost use Rattle.table.specs.Table.{table_in};
-ghost use Rattle.rounds.specs.Tick.{rate_of, tick_of, boundary_at};
+ghost use Rattle.rounds.specs.Tick.{due_since, rate_of, tick_of, boundary_at};
 
 use fields::{settings_of, tier_of};
 use heads::cycle::Cycle;
@@ -14,36 +14,37 @@ use tags::{at, count};
 pub fn rate_of(s: Settings, cycle: f64) -> f64
     ensures { result ≡ rate_of s cycle }
 {
-    if s.grouped {
-        rate_seconds(s.rate)
-    } else {
-        cycle
+    match s.group {
+        None => cycle,
+        Some(g) => rate_seconds(g.rate),
     }
 }
 
 pub fn tick_of(t: &[u8], order: &[u8], cycle: f64) -> f64
     ensures { result ≡ tick_of (table_in t.now) (list_in order.now) cycle }
 {
-    let n = count(order);
     let mut tick = cycle;
-    let mut i: usize = 0;
-    while i < n {
+    for i in 0..count(order) {
         let k = at(order, i);
         if tier_of(t, k) == 1 {
-            let s = settings_of(t, k);
-            tick = lesser(tick, rate_of(s, cycle));
+            tick = lesser(tick, rate_of(settings_of(t, k), cycle));
         }
-        i += 1;
     }
     tick
+}
+
+// Whether `rate` seconds have gone by since `last`, to half a tick; what never was is due.
+pub fn is_due_since(last: Option<f64>, clock: f64, half: f64, rate: f64) -> bool
+    ensures { result ≡ due_since last clock half rate }
+{
+    match last {
+        None => true,
+        Some(last) => is_due(clock, half, last, rate),
+    }
 }
 
 pub fn is_boundary(c: Cycle, clock: f64, half: f64, cycle: f64) -> bool
     ensures { result ≡ boundary_at c clock half cycle }
 {
-    if c.begun {
-        is_due(clock, half, c.last, cycle)
-    } else {
-        true
-    }
+    is_due_since(c.last, clock, half, cycle)
 }

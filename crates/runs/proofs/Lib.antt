@@ -1,3 +1,2 @@
 -- Laws on lent runs.
 pub mod Rows
-pub mod Tests

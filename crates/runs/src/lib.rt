@@ -9,14 +9,11 @@ ghost use Rattle.runs.specs.Run.{filled, answer};
 pub fn at<S: Copy>(run: &[S], i: usize, none: S) -> S
     ensures { result ≡ get_or run.now i none }
 {
-    if run.len() <= i {
-        return none;
-    }
-    run[i]
+    run.get(i).copied().unwrap_or(none)
 }
 
 // The first n of `from` over the first places of `out`; the places past them keep their contents. A run with fewer than K
-// places is refused (`refusal`), and left as it was.
+// places is refused, and left as it was: the answer is then `refusal`, the number of a check, as of the calls that C makes.
 pub fn fill<S: Copy, const K: usize>(out: &mut [S], from: [S; K], n: usize, refusal: u32) -> u32
     requires { n ≤ K }
     ensures { (result ≡ answer K refusal out.old) × (out.new ≡ filled K n from out.old) }
@@ -24,10 +21,6 @@ pub fn fill<S: Copy, const K: usize>(out: &mut [S], from: [S; K], n: usize, refu
     if out.len() < K {
         return refusal;
     }
-    let mut i = 0;
-    while i < n {
-        out[i] = from[i];
-        i = i + 1;
-    }
+    out[..n].copy_from_slice(&from[..n]);
     0
 }

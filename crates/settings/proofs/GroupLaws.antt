@@ -2,12 +2,12 @@
 use mathlib.Core.Path.{◌≡◌, refl, ap, sym, ◌∙◌}
 use mathlib.Core.Bool.{Bool, true, false}
 use mathlib.Core.List.{List, [], ◌∷◌, map}
-use Prim.Native.Nat.{ℕ, ◌+◌, ◌*◌, ◌/◌, ◌≤◌, ◌<◌, min}
+use Prim.Native.Nat.{ℕ, ◌+◌, ◌*◌, ◌/◌, ◌<◌, min}
 use native.Mathlib.Nat.{zero-add}
 use native.Mathlib.Omega.{arith}
 use borrow.Author.Tests.{ltb-true, ltb-false}
 use lib.Dec.{ltb}
-use lib.ListN.{length, get_or, set, take, drop, length-map, length-take, length-drop, get_or-eq_default}
+use lib.ListN.{length, get_or, set, take, drop, length-map, length-take, length-drop}
 use lib.Seq.{paste, take-paste, take-nil, take_all, get_or-take}
 use Rattle.memory.specs.Blocks.{blocks}
 use Rattle.memory.specs.Cells.{cells_in}
@@ -15,7 +15,7 @@ use Rattle.memory.proofs.CellLaws.{length_cells}
 use Rattle.memory.proofs.RowLaws.{map_at, map-set}
 use Rattle.settings.specs.Records.{records_of, records_in}
 use Rattle.settings.specs.Configured.{configured_from, no_group, given_groups, group_places, configured_in, group_room}
-use Rattle.settings.specs.declared.configured.Configured.{Configured}
+use Rattle.table.specs.declared.tag.GroupRate.{GroupRate}
 use Rattle.settings.proofs.RecordLaws.{length-records, record_at, two_cells, pair_at, pair_put}
 
 -- no cells are a group of zeros
@@ -85,9 +85,6 @@ kept_at bs i h =
     let long = length-kept bs in
     sym (get_or-take (get_or (cells_in bs) 0 0) (group_places bs) i no_group (omega arith) ∙ group_at bs i (omega arith))
 
-pub kept_none : (bs : List ℕ) (i : ℕ) → length (configured_in bs) ≤ i → get_or (configured_in bs) i no_group ≡ no_group
-kept_none bs i h = get_or-eq_default (configured_in bs) no_group h
-
 -- a new count: the places stay
 recounted : (ws : List ℕ) (n : ℕ)
     → take (get_or (set ws 0 n) 0 0) (map configured_from (records_of 2 (drop 1 (set ws 0 n)))) ≡ take n (map configured_from (records_of 2 (drop 1 ws)))
@@ -101,7 +98,7 @@ kept-counted old new n e =
     ap (λ (ws : List ℕ). take (get_or ws 0 0) (map configured_from (records_of 2 (drop 1 ws)))) e ∙ recounted (cells_in old) n
 
 -- places filled from a list, as many as there are of both
-pub filled : (places given : List Configured) (n : ℕ) → n ≡ min (length given) (length places)
+pub filled : (places given : List GroupRate) (n : ℕ) → n ≡ min (length given) (length places)
     → take n (paste places 0 given n) ≡ take (length places) given
 filled places given n e =
     ap (λ (m : ℕ). take m (paste places 0 given n)) (sym (zero-add n))

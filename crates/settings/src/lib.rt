@@ -2,5 +2,6 @@
 #![tactic(auto)]
 
 pub mod configured;
+mod each;
 pub mod range;
 pub mod setting;

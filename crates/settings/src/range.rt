@@ -14,26 +14,16 @@ fn is_rate(rate: u64) -> bool
 }
 
 // Without a group the rate does not count.
+#[tactic(auto, unfolding(crate::specs::Settings::setting_ok))]
 pub fn is_setting(band: u64, group: u64, rate: u64, described: u64) -> bool
     ensures { result ≡ setting_ok (band ∷ group ∷ rate ∷ described ∷ []) }
 {
-    if !is_finite(float_of_word(band)) {
-        return false;
-    }
-    if group == 0 {
-        return true;
-    }
-    if 16 < group {
-        return false;
-    }
-    is_rate(rate)
+    is_finite(float_of_word(band)) && (group == 0 || (group <= 16 && is_rate(rate)))
 }
 
+#[tactic(auto, unfolding(crate::specs::Configured::group_ok))]
 pub fn is_group(number: u64, rate: u64) -> bool
     ensures { result ≡ group_ok (number ∷ rate ∷ []) }
 {
-    if 16 <= number {
-        return false;
-    }
-    is_rate(rate)
+    number < 16 && is_rate(rate)
 }

@@ -1,8 +1,9 @@
 // The settings that the host lends, one for each tag.
 ghost use Rattle.std.specs.Prelude.{◌≡◌, [], ◌<◌, get_or};
-ghost use Rattle.settings.specs.Records.{records_in, every};
+ghost use Rattle.settings.specs.Records.{records_in};
 ghost use Rattle.settings.specs.Settings.{setting_count, setting_in, setting_ok, settings_ok};
 
+use super::each::check_each;
 use super::range::is_setting;
 use memory::cells::cell;
 use table::codec::settings_from;
@@ -15,49 +16,37 @@ pub fn setting_at(s: &[u8], i: usize) -> Settings
     if s.len() / 32 <= i {
         return Settings::none();
     }
-    let band = cell(s, 4 * i);
     let group = cell(s, 4 * i + 1);
-    let rate = cell(s, 4 * i + 2);
-    let described = cell(s, 4 * i + 3);
     let number = if group == 0 { 0 } else { group - 1 };
-    settings_from(band, group, number, rate, described)
+    settings_from(
+        cell(s, 4 * i),
+        group,
+        number,
+        cell(s, 4 * i + 2),
+        cell(s, 4 * i + 3),
+    )
 }
 
 fn is_setting_at(s: &[u8], i: usize) -> bool
     requires { i < setting_count s.now }
     ensures { result ≡ setting_ok (get_or (records_in 4 s.now) i []) }
 {
-    let band = cell(s, 4 * i);
-    let group = cell(s, 4 * i + 1);
-    let rate = cell(s, 4 * i + 2);
-    let described = cell(s, 4 * i + 3);
-    is_setting(band, group, rate, described)
-}
-
-fn check_each(s: &[u8]) -> bool
-    ensures { result ≡ every setting_ok (records_in 4 s.now) }
-{
-    let n = s.len() / 32;
-    let mut i: usize = 0;
-    while i < n {
-        if !is_setting_at(s, i) {
-            return false;
-        }
-        i += 1;
-    }
-    true
+    is_setting(
+        cell(s, 4 * i),
+        cell(s, 4 * i + 1),
+        cell(s, 4 * i + 2),
+        cell(s, 4 * i + 3),
+    )
 }
 
 // Whether there is one setting for each of `count` tags, and each is in range.
+#[tactic(auto, unfolding(crate::specs::Settings::settings_ok))]
 pub fn check_settings(s: &[u8], count: usize) -> bool
     ensures { result ≡ settings_ok count s.now }
 {
     let n = s.len() / 32;
-    if n != count {
+    if n != count || s.len() != 32 * n {
         return false;
     }
-    if s.len() != 32 * n {
-        return false;
-    }
-    check_each(s)
+    check_each(n, |i| is_setting_at(s, i))
 }

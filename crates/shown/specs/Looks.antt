@@ -1,5 +1,5 @@
 -- What looks answer, by the head and the board, and what they leave in a lent list.
-use Rattle.std.specs.Prelude.{cond, List, [], ◌∷◌, ℕ, ◌+◌, ◌/◌, eqb, ltb, leb, pos, length}
+use Rattle.std.specs.Prelude.{cond, List, [], ◌∷◌, ℕ, ℤ, Float, ◌+◌, ◌/◌, eqb, ltb, leb, pos, length, Option, Some, None}
 use Rattle.std.specs.Float.{binary64}
 use Rattle.std.specs.Float.Ieee.{of_bits}
 use Rattle.words.specs.Entry.{held_words_of}
@@ -10,10 +10,9 @@ use Rattle.panel.specs.Panel.{panel_of, written, written_length}
 use Rattle.lent.specs.Lent.{cell_bytes, wrote_all}
 use Rattle.statistics.specs.Counts.{tier_count}
 use Rattle.statistics.specs.Stats.{Facts, group_stats, groups_told}
-use Rattle.heads.specs.declared.version.Version.{Version}
-use Rattle.heads.specs.declared.version.Version.TheVariants.{Null as NoVersion, Is as AVersion}
 use Rattle.heads.specs.Link.{state_number}
 use Rattle.heads.specs.declared.link.Link.{Link}
+use Rattle.heads.specs.declared.stats.RoundTime.{RoundTime}
 use Rattle.heads.specs.declared.stats.Stats.{Stats}
 use Rattle.board.specs.Board.{Board, tag_at}
 use Rattle.shown.specs.declared.head.StateLook.{StateLook}
@@ -24,13 +23,13 @@ use Rattle.shown.specs.declared.tag.TagLook.{TagLook}
 
 -- ---- the state and the version
 
-abbrev pub known_cell : Version → ℕ
-known_cell NoVersion = 0
-known_cell (AVersion n) = 1
+abbrev pub known_cell : Option ℕ → ℕ
+known_cell None = 0
+known_cell (Some n) = 1
 
-abbrev pub version_cell : Version → ℕ
-version_cell NoVersion = 0
-version_cell (AVersion n) = n
+abbrev pub version_cell : Option ℕ → ℕ
+version_cell None = 0
+version_cell (Some n) = n
 
 abbrev pub state_of : Link → StateLook
 state_of x = record { code = 0; state = state_number x.state; known = known_cell x.version; version = version_cell x.version }
@@ -40,13 +39,26 @@ no_state code = record { code = code; state = 0; known = 0; version = 0 }
 
 -- ---- rule 10: the statistics of the rounds
 
--- 1 where a round has ended; without one the time and the wall time are 0
+-- 1 where a round has ended
+abbrev pub timed_cell : Option RoundTime → ℕ
+timed_cell None = 0
+timed_cell (Some r) = 1
+
+-- without one the time and the wall time are 0
+abbrev pub ms_cell : Option RoundTime → Float
+ms_cell None = of_bits binary64 0
+ms_cell (Some r) = r.ms
+
+abbrev pub ts_cell : Option RoundTime → ℤ
+ts_cell None = pos 0
+ts_cell (Some r) = r.ts
+
 abbrev pub stats_of : Stats → StatsLook
 stats_of x = record {
   code = 0;
-  timed = cond x.timed 1 0;
-  ms = cond x.timed x.ms (of_bits binary64 0);
-  ts = cond x.timed x.ts (pos 0);
+  timed = timed_cell x.last;
+  ms = ms_cell x.last;
+  ts = ts_cell x.last;
   reads = x.tags;
   tags = x.tags;
   overruns = x.overruns;

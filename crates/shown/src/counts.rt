@@ -4,6 +4,8 @@ ghost use Rattle.board.specs.Layout.{IsBoard};
 ghost use Rattle.board.specs.Board.{board_in};
 ghost use Rattle.shown.specs.Looks.{counts_of, no_counts};
 
+use super::found::tier_count;
+
 #[repr(C)]
 #[derive(Clone, Copy)]
 pub struct CountsLook {
@@ -17,14 +19,11 @@ pub fn counts_of(board: &[u8]) -> CountsLook
     requires { IsBoard board.now }
     ensures { result ≡ counts_of (board_in board.now) }
 {
-    let one = super::found::tier_count(board, 1);
-    let two = super::found::tier_count(board, 2);
-    let three = super::found::tier_count(board, 3);
     CountsLook {
         code: 0,
-        tier1: one as u64,
-        tier2: two as u64,
-        tier3: three as u64,
+        tier1: tier_count(board, 1) as u64,
+        tier2: tier_count(board, 2) as u64,
+        tier3: tier_count(board, 3) as u64,
     }
 }
 
@@ -32,7 +31,7 @@ pub fn no_counts(code: u64) -> CountsLook
     ensures { result ≡ no_counts code }
 {
     CountsLook {
-        code: code,
+        code,
         tier1: 0,
         tier2: 0,
         tier3: 0,

@@ -49,9 +49,7 @@ fn put_row(board: &[u8], out: &mut [u8], i: usize, k: usize)
     requires { IsBoard board.now }
     ensures { out.new ≡ record_put out.old i (row_cells (board_in board.now) k) }
 {
-    let tier = tier_of(board, k);
-    let cells = [k as u64, tier as u64];
-    lent::put_record(out, i, &cells);
+    lent::put_record(out, i, &[k as u64, tier_of(board, k) as u64]);
 }
 
 // The table in table order: tag and tier. Where there is no room for all of it nothing is written.
@@ -64,11 +62,8 @@ pub fn put_table(board: &[u8], out: &mut [u8]) -> usize
     if out.len() / 16 < n {
         return n;
     }
-    let mut i: usize = 0;
-    while i < n {
-        let k = order_at(board, i);
-        put_row(board, out, 2 * i, k);
-        i += 1;
+    for i in 0..n {
+        put_row(board, out, 2 * i, order_at(board, i));
     }
     n
 }

@@ -4,7 +4,6 @@ ghost use Rattle.shown.specs.Looks.{known_cell, version_cell, state_of, no_state
 
 use heads::link::{Link, state_number};
 use heads::stats::Stats;
-use heads::version::Version;
 
 // The state, and the version: known is 0 where it is null.
 #[repr(C)]
@@ -31,37 +30,32 @@ pub struct StatsLook {
     pub reloads: u64,
 }
 
-fn known_cell(v: Version) -> u64
+fn known_cell(v: Option<u64>) -> u64
     ensures { result ≡ known_cell v }
 {
     match v {
-        Version::Null => 0,
-        Version::Is(_) => 1,
+        None => 0,
+        Some(_) => 1,
     }
 }
 
-fn version_cell(v: Version) -> u64
+fn version_cell(v: Option<u64>) -> u64
     ensures { result ≡ version_cell v }
 {
     match v {
-        Version::Null => 0,
-        Version::Is(n) => n,
+        None => 0,
+        Some(n) => n,
     }
 }
 
 pub fn state_of(x: Link) -> StateLook
     ensures { result ≡ state_of x }
 {
-    let state = x.state;
-    let v = x.version;
-    let n = state_number(state);
-    let known = known_cell(v);
-    let version = version_cell(v);
     StateLook {
         code: 0,
-        state: n,
-        known: known,
-        version: version,
+        state: state_number(x.state),
+        known: known_cell(x.version),
+        version: version_cell(x.version),
     }
 }
 
@@ -69,7 +63,7 @@ pub fn no_state(code: u64) -> StateLook
     ensures { result ≡ no_state code }
 {
     StateLook {
-        code: code,
+        code,
         state: 0,
         known: 0,
         version: 0,
@@ -79,29 +73,22 @@ pub fn no_state(code: u64) -> StateLook
 pub fn stats_of(x: Stats) -> StatsLook
     ensures { result ≡ stats_of x }
 {
-    if x.timed {
-        return StatsLook {
-            code: 0,
-            timed: 1,
-            ms: x.ms,
-            ts: x.ts,
-            reads: x.tags,
-            tags: x.tags,
-            overruns: x.overruns,
-            reconnects: x.reconnects,
-            reloads: x.reloads,
-        };
-    }
-    StatsLook {
-        code: 0,
-        timed: 0,
-        ms: 0.0,
-        ts: 0,
+    let counts = StatsLook {
         reads: x.tags,
         tags: x.tags,
         overruns: x.overruns,
         reconnects: x.reconnects,
         reloads: x.reloads,
+        ..no_stats(0)
+    };
+    match x.last {
+        None => counts,
+        Some(r) => StatsLook {
+            timed: 1,
+            ms: r.ms,
+            ts: r.ts,
+            ..counts
+        },
     }
 }
 
@@ -109,7 +96,7 @@ pub fn no_stats(code: u64) -> StatsLook
     ensures { result ≡ no_stats code }
 {
     StatsLook {
-        code: code,
+        code,
         timed: 0,
         ms: 0.0,
         ts: 0,

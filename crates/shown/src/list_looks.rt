@@ -23,16 +23,8 @@ pub struct ListLook {
 pub fn listed(code: u64, n: usize) -> ListLook
     ensures { result ≡ listed code n }
 {
-    if code == 0 {
-        return ListLook {
-            code: 0,
-            count: n as u64,
-        };
-    }
-    ListLook {
-        code: code,
-        count: 0,
-    }
+    let count = if code == 0 { n as u64 } else { 0 };
+    ListLook { code, count }
 }
 
 // The groups' statistics: number, rate, tags in tier 1, 1 where there is a period, and its bits.
@@ -44,18 +36,14 @@ pub fn group_stats(board: &[u8], out: &mut [u8]) -> ListLook
     if out.len() / 40 < 16 {
         return listed(43, 0);
     }
-    let n = super::found::group_stats(board, out);
-    listed(0, n)
+    listed(0, super::found::group_stats(board, out))
 }
 
 // As many as there is room for: all or none.
 fn fitting(n: usize, places: usize) -> usize
     ensures { result ≡ fitting n places }
 {
-    if places < n {
-        return 0;
-    }
-    n
+    if places < n { 0 } else { n }
 }
 
 // The table in table order: tag and tier.
@@ -81,6 +69,5 @@ pub fn panel(board: &[u8], out: &mut [u8]) -> ListLook
     if out.len() < PANEL {
         return listed(43, 0);
     }
-    let n = super::found::write_panel(board, out);
-    listed(0, n)
+    listed(0, super::found::write_panel(board, out))
 }

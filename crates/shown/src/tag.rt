@@ -4,6 +4,7 @@ ghost use Rattle.board.specs.Layout.{IsBoard};
 ghost use Rattle.board.specs.Board.{board_in, tag_at};
 ghost use Rattle.shown.specs.Looks.{description_cell, tag_of, no_look, tag_found};
 
+use board::tag::{cached_of, description_of, tier_of};
 use table::tag::Description;
 use words::entry::held_words;
 
@@ -39,14 +40,10 @@ fn tag_of(board: &[u8], k: usize) -> TagLook
     requires { IsBoard board.now }
     ensures { result ≡ tag_of (tag_at (board_in board.now).table k) }
 {
-    let tier = board::tag::tier_of(board, k);
-    let cached = board::tag::cached_of(board, k);
-    let d = board::tag::description_of(board, k);
-    let w = held_words(cached);
-    let description = description_cell(d);
+    let w = held_words(cached_of(board, k));
     TagLook {
         code: 0,
-        tier: tier as u64,
+        tier: tier_of(board, k) as u64,
         held: w.held,
         kind: w.kind,
         word: w.word,
@@ -55,7 +52,7 @@ fn tag_of(board: &[u8], k: usize) -> TagLook
         message: w.message,
         has_g: 0,
         g: 0,
-        description: description,
+        description: description_cell(description_of(board, k)),
     }
 }
 
@@ -63,7 +60,7 @@ pub fn no_look(code: u64) -> TagLook
     ensures { result ≡ no_look code }
 {
     TagLook {
-        code: code,
+        code,
         tier: 0,
         held: 0,
         kind: 0,

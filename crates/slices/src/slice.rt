@@ -17,10 +17,7 @@ fn slice_size(n: u64, s: u64) -> u64
     requires { 1 ≤ s }
     ensures { result ≡ (n + (s - 1)) / s }
 {
-    if n == 0 {
-        return 0;
-    }
-    (n - 1) / s + 1
+    if n == 0 { 0 } else { (n - 1) / s + 1 }
 }
 
 // Of S slices the one at an index, after what `list` has.
@@ -35,11 +32,10 @@ pub fn list_slice(sorted: &[u8], list: &mut [u8], period: f64, cycle: f64, index
     if n / size < index {
         return;
     }
-    let mut i = index * size;
-    let end = if n - i < size { n } else { i + size };
-    while i < end {
+    let start = index * size;
+    let end = if n - start < size { n } else { start + size };
+    for i in start..end {
         push(list, at(sorted, i as usize));
-        i += 1;
     }
 }
 

@@ -1,16 +1,14 @@
 -- Rule 7: stale.
-use Rattle.std.specs.Prelude.{Bool, true, false, not, cond, List, map, ℕ, get_or}
+use Rattle.std.specs.Prelude.{Bool, true, false, not, cond, List, map, ℕ, get_or, Option, Some, None}
 use Rattle.lists.specs.Keep.{keep}
-use Rattle.values.specs.declared.error.Error.TheVariants.{None as NoError}
 use Rattle.values.specs.declared.entry.Quality.{Quality}
 use Rattle.values.specs.declared.entry.Quality.TheVariants.{Good, Bad, Missing, Stale}
-use Rattle.values.specs.declared.entry.Held.{Held}
-use Rattle.values.specs.declared.entry.Held.TheVariants.{None, Is}
 use Rattle.table.specs.Tag.{fresh_tag}
 use Rattle.table.specs.declared.tag.Tag.{Tag}
 use Rattle.table.specs.Table.{by_rank}
 use Rattle.board.specs.Board.{Board, with_records}
 use Rattle.readings.specs.Changes.{Changed}
+use Rattle.values.specs.declared.entry.Entry.{Entry}
 
 abbrev pub is_stale : Quality → Bool
 is_stale Good = false
@@ -19,14 +17,14 @@ is_stale Missing = false
 is_stale Stale = true
 
 -- Rule 7: cached and not stale yet.
-abbrev pub is_fresh : Held → Bool
+abbrev pub is_fresh : Option Entry → Bool
 is_fresh None = false
-is_fresh (Is e) = not (is_stale e.quality)
+is_fresh (Some e) = not (is_stale e.quality)
 
 -- Rule 7: stale keeps value and time, and clears the error.
-abbrev pub stale_held : Held → Held
+abbrev pub stale_held : Option Entry → Option Entry
 stale_held None = None
-stale_held (Is e) = Is (record { value = e.value; quality = Stale; t = e.t; error = NoError })
+stale_held (Some e) = Some (record { value = e.value; quality = Stale; t = e.t; error = None })
 
 -- Rule 7: every cached tag not stale yet is made stale, and so published.
 abbrev pub is_staled : Tag → Bool

@@ -17,48 +17,33 @@ use readings::changes::tell_changes;
 use table::tag::Tag;
 use table::{put_tag, tag_of};
 use tags::{clear, push};
-use values::entry::{Entry, Held, Quality};
-use values::error::Error;
+use values::entry::{Entry, Quality};
 
 fn is_stale(q: Quality) -> bool
     ensures { result ≡ is_stale q }
 {
-    match q {
-        Quality::Good => false,
-        Quality::Bad => false,
-        Quality::Missing => false,
-        Quality::Stale => true,
-    }
+    matches!(q, Quality::Stale)
 }
 
-fn is_fresh(h: Held) -> bool
+fn is_fresh(h: Option<Entry>) -> bool
     ensures { result ≡ is_fresh h }
 {
     match h {
-        Held::None => false,
-        Held::Is(e) => {
-            let q = e.quality;
-            !is_stale(q)
-        }
+        None => false,
+        Some(e) => !is_stale(e.quality),
     }
 }
 
-fn stale_held(h: Held) -> Held
+fn stale_held(h: Option<Entry>) -> Option<Entry>
     ensures { result ≡ stale_held h }
 {
     match h {
-        Held::None => Held::None,
-        Held::Is(e) => {
-            let value = e.value;
-            let t = e.t;
-            let error = Error::None;
-            Held::Is(Entry {
-                value: value,
-                quality: Quality::Stale,
-                t: t,
-                error: error,
-            })
-        }
+        None => None,
+        Some(e) => Some(Entry {
+            quality: Quality::Stale,
+            error: None,
+            ..e
+        }),
     }
 }
 
@@ -66,8 +51,7 @@ fn stale_held(h: Held) -> Held
 pub fn is_staled(x: Tag) -> bool
     ensures { result ≡ is_staled x }
 {
-    let cached = x.cached;
-    is_fresh(cached)
+    is_fresh(x.cached)
 }
 
 pub fn stale_tag(x: Tag) -> Tag
@@ -76,22 +60,11 @@ pub fn stale_tag(x: Tag) -> Tag
     if !is_staled(x) {
         return x;
     }
-    let cached = x.cached;
-    let stale = stale_held(cached);
-    let grace = x.grace;
-    let timing = x.timing;
-    let description = x.description;
-    let settings = x.settings;
+    let stale = stale_held(x.cached);
     Tag {
-        tier: x.tier,
-        grace: grace,
-        timing: timing,
-        added: x.added,
-        wants: x.wants,
-        description: description,
-        settings: settings,
         cached: stale,
         published: stale,
+        ..x
     }
 }
 
@@ -100,11 +73,9 @@ fn stale_at(table: &mut [u8], k: usize)
     ensures { table_in table.new ≡ set (table_in table.old) k (tag_stale (get_or (table_in table.old) k fresh_tag)) }
 {
     let x = tag_of(table, k);
-    if !is_staled(x) {
-        return;
+    if is_staled(x) {
+        put_tag(table, k, stale_tag(x));
     }
-    let y = stale_tag(x);
-    put_tag(table, k, y);
 }
 
 // The tags that become stale. A list can hold tags below 65536.
@@ -114,24 +85,18 @@ fn list_staled(table: &[u8], changes: &mut [u8])
     clear(changes);
     let rows = table.len() / 256;
     let n = if rows < 65536 { rows } else { 65536 };
-    let mut k: usize = 0;
-    while k < n {
-        let x = tag_of(table, k);
-        if is_staled(x) {
+    for k in 0..n {
+        if is_staled(tag_of(table, k)) {
             push(changes, k);
         }
-        k += 1;
     }
 }
 
 fn stale_all(table: &mut [u8])
     ensures { table_in table.new ≡ map tag_stale (table_in table.old) }
 {
-    let n = table.len() / 256;
-    let mut k: usize = 0;
-    while k < n {
+    for k in 0..table.len() / 256 {
         stale_at(table, k);
-        k += 1;
     }
 }
 

@@ -1,21 +1,21 @@
 -- Groups 5 and 2 are configured, 5 twice; 7 and then 2 are recorded.
 use mathlib.Core.Path.{◌≡◌, refl}
-use mathlib.Core.Bool.{true, false}
 use mathlib.Core.List.{List, [], ◌∷◌}
 use Prim.Native.Nat.{ℕ}
+use Rattle.std.specs.Prelude.{Some, None}
 use Rattle.lists.specs.Keep.{keep}
 use Rattle.table.specs.Tag.{f0}
 use Rattle.groups.specs.Groups.{fresh_group}
 use Rattle.groups.specs.declared.group.Group.{Group}
-use Rattle.settings.specs.declared.configured.Configured.{Configured}
+use Rattle.table.specs.declared.tag.GroupRate.{GroupRate}
 use Rattle.statistics.specs.Numbers.{firsts, group_numbers}
 use Rattle.statistics.specs.Rate.{last_rate_from, group_rate}
 use Rattle.statistics.specs.Period.{timed_cell}
 
-abbrev group : ℕ → ℕ → Configured
+abbrev group : ℕ → ℕ → GroupRate
 group n rate = record { number = n; rate = rate }
 
-abbrev configured : List Configured
+abbrev configured : List GroupRate
 configured = group 5 100 ∷ group 2 200 ∷ group 5 300 ∷ []
 
 abbrev recorded : List ℕ
@@ -23,7 +23,7 @@ recorded = 7 ∷ 2 ∷ []
 
 -- the time of one round
 abbrev once : Group
-once = record { read = true; again = false; rate = 250; last = f0; before = f0 }
+once = record { rate = 250; last = Some f0; before = None }
 
 abbrev groups : List Group
 groups = fresh_group ∷ fresh_group ∷ once ∷ []

@@ -8,7 +8,7 @@ use borrow.Author.Tests.{le-leb, lt-leb}
 use lib.ListN.{length, get_or, take}
 use Rattle.lists.specs.Keep.{Below}
 use Rattle.lists.proofs.KeepLaws.{below-append}
-use Rattle.settings.specs.declared.configured.Configured.{Configured}
+use Rattle.table.specs.declared.tag.GroupRate.{GroupRate}
 use Rattle.lent.specs.Lent.{cell_bytes, over_bytes, wrote_all, record_put, records}
 use Rattle.lent.proofs.LentLaws.{length_bytes, length-records, records_none, put_after, cells_fit}
 use Rattle.statistics.specs.Numbers.{firsts, is_first, named}
@@ -28,8 +28,8 @@ module _ (F : Facts) where
   told_none out h = rw (lt-leb _ _ (let over : length out < length (cell_bytes (group_stats F)) = omega (arith, length_bytes (group_stats F)) in over))
 
   -- where every number is below n there are at most n groups, and 40 bytes for each of n are room for all
-  pub groups_few : (n : ℕ) → Below n (map (λ (x : Configured). x.number) F.configured) → Below n F.recorded → length (groups_of F) ≤ n
-  groups_few n b r = firsts_few n (named F.configured F.recorded) (below-append n (map (λ (x : Configured). x.number) F.configured) F.recorded b r)
+  pub groups_few : (n : ℕ) → Below n (map (λ (x : GroupRate). x.number) F.configured) → Below n F.recorded → length (groups_of F) ≤ n
+  groups_few n b r = firsts_few n (named F.configured F.recorded) (below-append n (map (λ (x : GroupRate). x.number) F.configured) F.recorded b r)
 
   pub told_few : (out : List ℕ) (n : ℕ) → length (groups_of F) ≤ n → 40 * n ≤ length out
       → (groups_told out F ≡ length (groups_of F)) × (wrote_all out (cell_bytes (group_stats F)) ≡ over_bytes out (cell_bytes (group_stats F)))

@@ -6,7 +6,7 @@ use Rattle.table.specs.declared.tag.Tag.{Tag}
 use Rattle.groups.specs.Groups.{fresh_group, groups_in}
 use Rattle.groups.specs.declared.group.Group.{Group}
 use Rattle.settings.specs.Configured.{configured_in}
-use Rattle.settings.specs.declared.configured.Configured.{Configured}
+use Rattle.table.specs.declared.tag.GroupRate.{GroupRate}
 use Rattle.lent.specs.Lent.{cell_bytes, has_room, records}
 use Rattle.statistics.specs.Counts.{group_tags}
 use Rattle.statistics.specs.Numbers.{group_numbers}
@@ -17,7 +17,7 @@ use Rattle.statistics.specs.Period.{timed_cell, period_cell}
 pub record Facts : Type 0 where
   pub tags : List Tag
   pub order : List ℕ
-  pub configured : List Configured
+  pub configured : List GroupRate
   pub groups : List Group
   pub recorded : List ℕ
 

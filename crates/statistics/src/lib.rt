@@ -17,24 +17,27 @@ use numbers::{group_count, is_first, named_count, number_at};
 use period::{period_cell, timed_cell};
 use rate::group_rate;
 
-fn put_group_stat(
-    t: &[u8],
-    order: &[u8],
-    configured: &[u8],
-    groups: &[u8],
-    recorded: &[u8],
-    out: &mut [u8],
-    i: usize,
-    group: usize,
-)
-    ensures { out.new ≡ record_put out.old i (stat_cells (facts t.now order.now configured.now groups.now recorded.now) group) }
+// What statistics are made of: the table with its order, the configured groups, and what is recorded of groups.
+#[derive(Clone, Copy)]
+struct Sources<'a> {
+    t: &'a [u8],
+    order: &'a [u8],
+    configured: &'a [u8],
+    groups: &'a [u8],
+    recorded: &'a [u8],
+}
+
+fn put_group_stat<'a>(out: &mut [u8], i: usize, from: &Sources<'a>, group: usize)
+    ensures { out.new ≡ record_put out.old i (stat_cells (facts from.now.t.now from.now.order.now from.now.configured.now from.now.groups.now from.now.recorded.now) group) }
 {
-    let rate = group_rate(configured, groups, recorded, group);
-    let tags = group_tags(t, order, group);
-    let x = group_of(groups, group);
-    let timed = timed_cell(x);
-    let period = period_cell(x);
-    let cells = [group as u64, rate as u64, tags as u64, timed, period];
+    let x = group_of(from.groups, group);
+    let cells = [
+        group as u64,
+        group_rate(from.configured, from.groups, from.recorded, group) as u64,
+        group_tags(from.t, from.order, group) as u64,
+        timed_cell(x),
+        period_cell(x),
+    ];
     put_record(out, i, &cells);
 }
 
@@ -56,15 +59,19 @@ pub fn group_stats(
         return 0;
     }
     let m = named_count(configured, recorded);
+    let from = Sources {
+        t,
+        order,
+        configured,
+        groups,
+        recorded,
+    };
     let mut done: usize = 0;
-    let mut i: usize = 0;
-    while i < m {
+    for i in 0..m {
         if is_first(configured, recorded, i) {
-            let group = number_at(configured, recorded, i);
-            put_group_stat(t, order, configured, groups, recorded, out, 5 * done, group);
+            put_group_stat(out, 5 * done, &from, number_at(configured, recorded, i));
             done += 1;
         }
-        i += 1;
     }
     n
 }

@@ -12,10 +12,10 @@ pub fn number_at(configured: &[u8], recorded: &[u8], i: usize) -> usize
 {
     let n = configured_count(configured);
     if i < n {
-        let x = configured_at(configured, i);
-        return x.number as usize;
+        configured_at(configured, i).number as usize
+    } else {
+        at(recorded, i - n)
     }
-    at(recorded, i - n)
 }
 
 pub fn named_count(configured: &[u8], recorded: &[u8]) -> usize
@@ -32,27 +32,24 @@ pub fn is_first(configured: &[u8], recorded: &[u8], i: usize) -> bool
         return false;
     }
     let group = number_at(configured, recorded, i);
-    let mut j: usize = 0;
-    while j < i {
+    for j in 0..i {
         if number_at(configured, recorded, j) == group {
             return false;
         }
-        j += 1;
     }
     true
 }
 
+// It counts places, and `count_where` tags of a list: one for both would promise neither in its own words.
 pub fn group_count(configured: &[u8], recorded: &[u8]) -> usize
     ensures { result ≡ length (group_numbers (configured_in configured.now) (list_in recorded.now)) }
 {
     let m = named_count(configured, recorded);
     let mut n: usize = 0;
-    let mut i: usize = 0;
-    while i < m {
+    for i in 0..m {
         if is_first(configured, recorded, i) {
             n += 1;
         }
-        i += 1;
     }
     n
 }

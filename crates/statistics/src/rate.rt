@@ -12,15 +12,12 @@ use tags::contains;
 fn last_rate(configured: &[u8], group: usize) -> u32
     ensures { result ≡ last_rate (configured_in configured.now) group }
 {
-    let n = configured_count(configured);
     let mut rate: u32 = 0;
-    let mut i: usize = 0;
-    while i < n {
+    for i in 0..configured_count(configured) {
         let x = configured_at(configured, i);
         if x.number as usize == group {
             rate = x.rate;
         }
-        i += 1;
     }
     rate
 }
@@ -29,8 +26,8 @@ pub fn group_rate(configured: &[u8], groups: &[u8], recorded: &[u8], group: usiz
     ensures { result ≡ group_rate (configured_in configured.now) (groups_in groups.now) (list_in recorded.now) group }
 {
     if contains(recorded, group) {
-        let x = group_of(groups, group);
-        return x.rate;
+        group_of(groups, group).rate
+    } else {
+        last_rate(configured, group)
     }
-    last_rate(configured, group)
 }

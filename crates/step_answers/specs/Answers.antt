@@ -1,11 +1,9 @@
 -- Rule 9: what each answer of the host comes to.
-use Rattle.std.specs.Prelude.{Bool, true, false, cond, eqb, length}
+use Rattle.std.specs.Prelude.{Bool, true, false, cond, eqb, length, Option, Some, None, ℕ}
 use Rattle.values.specs.declared.value.Value.TheVariants.{Null}
 use Rattle.lent.specs.Lent.{cell_bytes, tag_bytes}
 use Rattle.heads.specs.Version.{is_reloaded}
 use Rattle.versions.specs.Versions.{version_table}
-use Rattle.heads.specs.declared.version.Version.{Version as Number}
-use Rattle.heads.specs.declared.version.Version.TheVariants.{Null as Unknown, Is as Known}
 use Rattle.descriptions.specs.Descriptions.{learnt, learnt_none}
 use Rattle.writes.specs.ReadBack.{read_back_tags, read_back_first, kept_back}
 use Rattle.heads.specs.Link.{is_state, with_attempt, with_version}
@@ -37,8 +35,8 @@ reconnecting W =
 unfoldable pub opened : Worker → Told
 opened W = cond (is_empty W.board.queue) (asks W OpenVersion reply.version) (failing W OpenFailedTold)
 
-abbrev pub number_of : Answer → Number
-number_of a = cond (eqb a.kind 3) Unknown (Known a.number)
+abbrev pub number_of : Answer → Option ℕ
+number_of a = cond (eqb a.kind 3) None (Some a.number)
 
 -- Rule 8: the version is kept, and what a change or a connect does is done
 abbrev pub versioned : Worker → Bool → Answer → Worker

@@ -3,7 +3,10 @@ ghost use Rattle.std.specs.Prelude.{true, List, ◌≡◌, ℕ};
 ghost use Rattle.board.specs.Board.{Board, board_in};
 ghost use Rattle.board.specs.Layout.{IsBoard};
 ghost use Rattle.readings.specs.Changes.{applied_to, Changing};
-ghost use Rattle.replies.specs.Worker.{at, worker, Done, Quietly};
+ghost use Rattle.engine.specs.Engine.{with_stats};
+ghost use Rattle.heads.specs.Stats.{reloaded};
+ghost use Rattle.replies.specs.Reply.{meta};
+ghost use Rattle.replies.specs.Worker.{at, worker, said_in, Done, Quietly};
 ghost use Rattle.step_checks.specs.Awaited.{answer};
 ghost use Rattle.step_answers.specs.Answers.{connected, reconnecting, opened, number_of, open_version, round_version, results, descriptions, written, read_back, back_applied, waited, backed_off};
 
@@ -14,7 +17,7 @@ use engine::{Engine, with_link, with_stats};
 use heads::link::{State, is_state, with_attempt, with_state, with_version};
 use heads::progress::{After, Phase};
 use heads::stats::{reconnected, reloaded};
-use heads::version::{Version, is_reloaded};
+use heads::version::is_reloaded;
 use readings::kept::apply_back;
 use readings::listed::apply;
 use replies::losing::{down, ended, failing, phased, top};
@@ -29,16 +32,12 @@ use writes::request::put_asked;
 pub fn connected(e: Engine) -> Said
     ensures { (B : Board) → Quietly (connected (worker e B)) result B }
 {
-    let old = e.link;
-    let link = with_attempt(old, 0);
-    if is_state(old, State::Connected) {
-        let next = with_link(e, link);
-        return polls(next);
+    let link = with_attempt(e.link, 0);
+    if is_state(e.link, State::Connected) {
+        return polls(with_link(e, link));
     }
-    let now = with_state(link, State::Connected);
-    let next = with_link(e, now);
-    let r = Reply::status(State::Connected);
-    phased(next, Phase::ConnectedTold, r)
+    let next = with_link(e, with_state(link, State::Connected));
+    phased(next, Phase::ConnectedTold, Reply::status(State::Connected))
 }
 
 // A reconnect attempt.
@@ -46,16 +45,16 @@ fn reconnecting(board: &mut [u8], out: &mut [u8], e: Engine) -> Said
     requires { IsBoard board.old }
     ensures { Done (reconnecting (worker e (board_in board.old))) result board.new out.old out.new }
 {
-    let stats = reconnected(e.stats);
-    let tallied = with_stats(e, stats);
-    let old = e.link;
-    if is_state(old, State::Connecting) {
+    let tallied = with_stats(e, reconnected(e.stats));
+    if is_state(e.link, State::Connecting) {
         return top(board, out, tallied);
     }
-    let link = with_state(old, State::Connecting);
-    let next = with_link(tallied, link);
-    let r = Reply::status(State::Connecting);
-    phased(next, Phase::ConnectingTold, r)
+    let next = with_link(tallied, with_state(e.link, State::Connecting));
+    phased(
+        next,
+        Phase::ConnectingTold,
+        Reply::status(State::Connecting),
+    )
 }
 
 // Opened: writes left over from before the connect fail first.
@@ -64,19 +63,26 @@ pub fn opened(board: &mut [u8], out: &mut [u8], e: Engine) -> Said
     ensures { Done (opened (worker e (board_in board.old))) result board.new out.old out.new }
 {
     if queued(board) == 0 {
-        let r = Reply::listed(Reply::VERSION, 0);
-        return phased(e, Phase::OpenVersion, r);
+        return phased(e, Phase::OpenVersion, Reply::listed(Reply::VERSION, 0));
     }
     failing(board, out, e, Phase::OpenFailedTold)
 }
 
-fn number_of(a: Answer) -> Version
+fn number_of(a: Answer) -> Option<u64>
     ensures { (list : List ℕ) → result ≡ number_of (answer a list) }
 {
     if a.kind == Answer::NO_VERSION {
-        return Version::Null;
+        return None;
     }
-    Version::Is(a.number)
+    Some(a.number)
+}
+
+// The directory was reloaded: it is counted, and told.
+fn meta(e: Engine, p: Phase) -> Said
+    ensures { result ≡ said_in (with_stats e (reloaded e.stats)) p meta }
+{
+    let tallied = with_stats(e, reloaded(e.stats));
+    phased(tallied, p, Reply::listed(Reply::META, 0))
 }
 
 // The version while connecting.
@@ -84,17 +90,11 @@ pub fn open_version(board: &mut [u8], e: Engine, a: Answer, list: &[u8]) -> Said
     requires { IsBoard board.old }
     ensures { (out : List ℕ) → Done (open_version (worker e (board_in board.old)) (answer a list.now)) result board.new out out }
 {
-    let old = e.link;
-    let before = old.version;
     let new = number_of(a);
-    check_version(board, list, before, new, true);
-    let link = with_version(old, new);
-    let next = with_link(e, link);
-    if is_reloaded(before, new) {
-        let stats = reloaded(e.stats);
-        let tallied = with_stats(next, stats);
-        let r = Reply::listed(Reply::META, 0);
-        return phased(tallied, Phase::OpenMetaTold, r);
+    check_version(board, list, e.link.version, new, true);
+    let next = with_link(e, with_version(e.link, new));
+    if is_reloaded(e.link.version, new) {
+        return meta(next, Phase::OpenMetaTold);
     }
     connected(next)
 }
@@ -112,17 +112,11 @@ pub fn round_version(
     requires { IsBoard board.old }
     ensures { Done (round_version (worker e (board_in board.old)) (at clock wall) (answer a list.now)) result board.new out.old out.new }
 {
-    let old = e.link;
-    let before = old.version;
     let new = number_of(a);
-    check_version(board, list, before, new, false);
-    let link = with_version(old, new);
-    let next = with_link(e, link);
-    if is_reloaded(before, new) {
-        let stats = reloaded(e.stats);
-        let tallied = with_stats(next, stats);
-        let r = Reply::listed(Reply::META, 0);
-        return phased(tallied, Phase::MetaTold, r);
+    check_version(board, list, e.link.version, new, false);
+    let next = with_link(e, with_version(e.link, new));
+    if is_reloaded(e.link.version, new) {
+        return meta(next, Phase::MetaTold);
     }
     writing(board, out, next, clock, wall, After::Tail)
 }
@@ -132,8 +126,7 @@ fn apply_polled(board: &mut [u8], out: &mut [u8], results: &[u8], e: Engine, t: 
     requires { IsBoard board.old }
     ensures { Changing (applied_to (board_in board.old) results.now e.progress.start t true) result board.new out.old out.new }
 {
-    let round = e.progress;
-    apply(board, out, results, round.start, t, true)
+    apply(board, out, results, e.progress.start, t, true)
 }
 
 // The results of a round.
@@ -156,8 +149,7 @@ pub fn results(
     if n == 0 {
         return reading(board, out, e, clock, wall);
     }
-    let r = Reply::listed(Reply::VALUES, n as u64);
-    phased(e, Phase::ValuesTold, r)
+    phased(e, Phase::ValuesTold, Reply::listed(Reply::VALUES, n as u64))
 }
 
 // Descriptions; every tag asked is told.
@@ -171,8 +163,7 @@ pub fn descriptions(board: &mut [u8], out: &mut [u8], e: Engine, a: Answer, list
         learn_none(board);
     }
     let n = put_asked(board, out);
-    let r = Reply::listed(Reply::INFO, n as u64);
-    phased(e, Phase::InfoTold, r)
+    phased(e, Phase::InfoTold, Reply::listed(Reply::INFO, n as u64))
 }
 
 // A write was answered.
@@ -180,19 +171,21 @@ pub fn written(board: &mut [u8], out: &mut [u8], e: Engine, a: Answer, list: &[u
     requires { IsBoard board.old }
     ensures { Done (written (worker e (board_in board.old)) (answer a list.now)) result board.new out.old out.new }
 {
-    let p = e.progress;
+    let tag = e.progress.tag;
     if a.kind == Answer::WRITTEN {
-        ask_read_back(board, p.tag);
+        ask_read_back(board, tag);
         let n = put_asked(board, out);
-        let r = Reply::listed(Reply::READ_BACK, n as u64);
-        return phased(e, Phase::ReadBack, r);
+        return phased(
+            e,
+            Phase::ReadBack,
+            Reply::listed(Reply::READ_BACK, n as u64),
+        );
     }
     if a.kind == Answer::REFUSED {
-        let r = Reply::was_refused(p.tag, a.number, a.message);
+        let r = Reply::was_refused(tag, a.number, a.message);
         return phased(e, Phase::RefusedTold, r);
     }
-    let r = Reply::was_lost(p.tag);
-    phased(e, Phase::LostTold, r)
+    phased(e, Phase::LostTold, Reply::was_lost(tag))
 }
 
 // A read-back was answered: the outcome is told, and the results are kept until it has been taken.
@@ -200,14 +193,12 @@ pub fn read_back(board: &mut [u8], e: Engine, a: Answer, list: &[u8]) -> Said
     requires { IsBoard board.old }
     ensures { (out : List ℕ) → Done (read_back (worker e (board_in board.old)) (answer a list.now)) result board.new out out }
 {
-    let p = e.progress;
+    let tag = e.progress.tag;
     if a.kind == Answer::LOST {
-        let r = Reply::went_through(p.tag, Value::Null);
-        return phased(e, Phase::LostTold, r);
+        return phased(e, Phase::LostTold, Reply::went_through(tag, Value::Null));
     }
     keep_back(board, list);
-    let value = read_back_value(list);
-    let r = Reply::went_through(p.tag, value);
+    let r = Reply::went_through(tag, read_back_value(list));
     phased(e, Phase::OutcomeTold, r)
 }
 
@@ -218,12 +209,9 @@ pub fn back_applied(board: &mut [u8], out: &mut [u8], e: Engine, clock: f64, wal
 {
     let n = apply_back(board, out, clock, wall);
     if n == 0 {
-        let p = e.progress;
-        let after = p.after;
-        return writing(board, out, e, clock, wall, after);
+        return writing(board, out, e, clock, wall, e.progress.after);
     }
-    let r = Reply::listed(Reply::VALUES, n as u64);
-    phased(e, Phase::BackTold, r)
+    phased(e, Phase::BackTold, Reply::listed(Reply::VALUES, n as u64))
 }
 
 // The wait between rounds is over, or was cut short.
@@ -231,8 +219,7 @@ pub fn waited(board: &mut [u8], out: &mut [u8], e: Engine, clock: f64, wall: i64
     requires { IsBoard board.old }
     ensures { Done (waited (worker e (board_in board.old)) (at clock wall)) result board.new out.old out.new }
 {
-    let link = e.link;
-    if link.stopping {
+    if e.link.stopping {
         return writing(board, out, e, clock, wall, After::End);
     }
     writing(board, out, e, clock, wall, After::Idle)
@@ -243,8 +230,7 @@ pub fn backed_off(board: &mut [u8], out: &mut [u8], e: Engine) -> Said
     requires { IsBoard board.old }
     ensures { Done (backed_off (worker e (board_in board.old))) result board.new out.old out.new }
 {
-    let link = e.link;
-    if link.stopping {
+    if e.link.stopping {
         return ended(board, out, e);
     }
     reconnecting(board, out, e)

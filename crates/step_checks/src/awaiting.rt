@@ -54,14 +54,11 @@ fn awaited(p: Phase) -> u64
     match p {
         Phase::Begin => 0,
         Phase::Connect => 1,
-        Phase::OpenVersion => 2,
-        Phase::Version => 2,
-        Phase::Read => 3,
-        Phase::ReadBack => 3,
+        Phase::OpenVersion | Phase::Version => 2,
+        Phase::Read | Phase::ReadBack => 3,
         Phase::Write => 4,
         Phase::Describe => 5,
-        Phase::Wait => 6,
-        Phase::Backoff => 6,
+        Phase::Wait | Phase::Backoff => 6,
         Phase::Stopped => 8,
         _ => 7,
     }
@@ -70,31 +67,20 @@ fn awaited(p: Phase) -> u64
 fn is_error(n: u64) -> bool
     ensures { result ≡ is_error n }
 {
-    if n == 0 {
-        return false;
-    }
-    n < 0x1_0003
+    n != 0 && n < 0x1_0003
 }
 
 fn is_either(kind: u64, a: u64, b: u64) -> bool
     ensures { result ≡ either kind a b }
 {
-    if kind == a {
-        return true;
-    }
-    kind == b
+    kind == a || kind == b
 }
 
 fn answers_write(a: Answer) -> bool
     ensures { (list : List ℕ) → result ≡ answers_write (answer a list) }
 {
-    if is_either(a.kind, Answer::WRITTEN, Answer::LOST) {
-        return true;
-    }
-    if a.kind == Answer::REFUSED {
-        return is_error(a.number);
-    }
-    false
+    is_either(a.kind, Answer::WRITTEN, Answer::LOST)
+        || (a.kind == Answer::REFUSED && is_error(a.number))
 }
 
 fn answers(w: u64, a: Answer) -> bool
@@ -155,9 +141,7 @@ pub fn step_check(
     if clock < e.clock {
         return 22;
     }
-    let p = e.progress;
-    let phase = p.phase;
-    if !answers(awaited(phase), a) {
+    if !answers(awaited(e.progress.phase), a) {
         return 41;
     }
     contents(board, e, a, list)

@@ -1,122 +1,84 @@
 // Tier calls and rounds, on the board of a directory that is whole.
 ghost use Rattle.board.specs.Layout.{IsBoard};
 
-use super::setup::begin;
-use super::state::{Next, State};
+use super::setup::Names;
+use super::state::{Calls, Stage, Stop};
 use board::parts::asked_of;
-use board::starts::size_for;
-use heads::cycle::Cycle;
-use heads::options::Options;
-use ieee::times::{is_clock, seconds};
+use board::starts::{size_for, tags_in};
 use listing::line::Line;
 use listing::write::put_line;
-use names::directory::MAX_NAMES;
 use rounds::round::cycle_tags;
-use std::io;
 use tiers::grace::set_tier;
-
-// `s`: time, tag and tier are checked in this order.
-fn take_set(s: State, ms: u64, tag: u64, tier: u64, b: &mut [u8]) -> Next
-    requires { IsBoard b.old }
-{
-    let clock = seconds(ms);
-    if !is_clock(clock) {
-        return Next::End;
-    }
-    if clock < s.clock {
-        return Next::End;
-    }
-    if s.count as u64 <= tag {
-        return Next::End;
-    }
-    if 3 < tier {
-        return Next::End;
-    }
-    let o = s.options;
-    set_tier(b, (tag % 65536) as u16, (tier % 256) as u8, o.grace, clock);
-    let c = s.cycle;
-    Next::On(s.at(clock, c))
-}
 
 // Room for the line of a round: each tag takes six bytes at most.
 const LINE: usize = 1024;
 
-// Works out one round, reads nothing, and prints its line.
-fn print_round(
-    rt: &impl Print,
-    b: &mut [u8],
-    o: Options,
-    c: Cycle,
-    ms: u64,
-    clock: f64,
-) -> io::Result<Cycle>
+// `s`: time, tag and tier are checked in this order.
+fn take_set(calls: Calls, ms: u64, tag: u64, tier: u64, b: &mut [u8]) -> Result<Calls, Stop>
     requires { IsBoard b.old }
 {
-    let r = cycle_tags(b, o, c, clock);
+    let clock = calls.time(ms)?;
+    if tags_in(b) as u64 <= tag || 3 < tier {
+        return Err(Stop::Refused);
+    }
+    set_tier(b, tag as u16, tier as u8, calls.options.grace, clock);
+    Ok(Calls { clock, ..calls })
+}
+
+// `c`: works out one round, reads nothing, and prints its line.
+fn take_round(rt: &impl Print, calls: Calls, ms: u64, b: &mut [u8]) -> Result<Calls, Stop>
+    requires { IsBoard b.old }
+{
+    let clock = calls.time(ms)?;
+    let round = cycle_tags(b, calls.options, calls.cycle, clock);
     let mut line = [0u8; LINE];
-    let n = put_line(&mut line, ms, r.boundary, asked_of(b));
-    if n <= LINE {
-        rt.write_all(&line[0..n])?;
+    if let Some(n) = put_line(&mut line, ms, round.boundary, asked_of(b)) {
+        rt.write_all(&line[..n])?;
     }
-    Ok(r.cycle)
+    Ok(Calls {
+        cycle: round.cycle,
+        clock,
+        ..calls
+    })
 }
 
-// `c`: a round.
-fn take_round(rt: &impl Print, s: State, ms: u64, b: &mut [u8]) -> io::Result<Next>
-    requires { IsBoard b.old }
-{
-    let clock = seconds(ms);
-    if !is_clock(clock) {
-        return Ok(Next::End);
-    }
-    if clock < s.clock {
-        return Ok(Next::End);
-    }
-    let o = s.options;
-    let c = s.cycle;
-    let after = print_round(rt, b, o, c, ms, clock)?;
-    Ok(Next::On(s.at(clock, after)))
-}
-
-fn call<'a>(
+fn call(
     rt: &impl Print,
-    s: State,
+    stage: Stage,
     line: Line,
-    buffer: &'a [u8],
-    ends: &'a [u32],
+    names: &Names,
     b: &mut [u8],
-) -> io::Result<Next>
+) -> Result<Stage, Stop>
     requires { IsBoard b.old }
 {
-    let Next::On(ready) = begin(s, buffer, ends, b) else {
-        return Ok(Next::End);
+    let calls = match stage {
+        Stage::Start => return Err(Stop::Refused),
+        Stage::Names(options) => names.begin(options, b)?,
+        Stage::Calls(calls) => calls,
     };
-    match line {
-        Line::Set(ms, tag, tier) => Ok(take_set(ready, ms, tag, tier, b)),
-        Line::Round(ms) => take_round(rt, ready, ms, b),
-        _ => Ok(Next::End),
-    }
+    let after = match line {
+        Line::Set(ms, tag, tier) => take_set(calls, ms, tag, tier, b)?,
+        Line::Round(ms) => take_round(rt, calls, ms, b)?,
+        _ => return Err(Stop::Refused),
+    };
+    Ok(Stage::Calls(after))
 }
 
 // `s` or `c`. The board for as many tags as there are names stands at the front of the memory.
-pub fn take_call<'a>(
+pub fn take_call(
     rt: &impl Print,
-    s: State,
+    stage: Stage,
     line: Line,
-    buffer: &'a [u8],
-    ends: &'a [u32],
+    names: &Names,
     mem: &mut [u8],
-) -> io::Result<Next> {
-    let count = s.count;
+) -> Result<Stage, Stop> {
+    let count = names.count();
     if count == 0 {
-        return Ok(Next::End);
-    }
-    if MAX_NAMES < count {
-        return Ok(Next::End);
+        return Err(Stop::Refused);
     }
     let size = size_for(count);
     if mem.len() < size {
-        return Ok(Next::End);
+        return Err(Stop::Refused);
     }
-    call(rt, s, line, buffer, ends, &mut mem[0..size])
+    call(rt, stage, line, names, &mut mem[..size])
 }

@@ -1,124 +1,75 @@
 // Options and names.
+ghost use Rattle.std.specs.Prelude.{◌≤◌};
 ghost use Rattle.board.specs.Layout.{IsBoard};
 
-use super::state::{Next, State};
+use super::state::{Calls, Stage, Stop};
+use arrayvec::ArrayVec;
 use board::starts::tags_in;
 use fresh::create;
 use heads::options::Options;
 use ieee::times::seconds;
 use names::directory::{MAX_NAME_LENGTH, MAX_NAMES};
 
-// `o`: the first line, and no other.
-pub fn take_options(s: State, cycle: u64, period: u64, grace: u64) -> Next {
-    if s.stage != 0 {
-        return Next::End;
-    }
+// Room for the names of the largest directory.
+const NAMES: usize = MAX_NAMES * MAX_NAME_LENGTH;
+
+// `o`: cycle, period and grace in milliseconds.
+pub fn options(cycle: u64, period: u64, grace: u64) -> Result<Stage, Stop> {
     let o = Options {
         cycle: seconds(cycle),
         period: seconds(period),
         grace: seconds(grace),
     };
     if heads::options::check_options(o) != 0 {
-        return Next::End;
+        return Err(Stop::Refused);
     }
-    let c = s.cycle;
-    Next::On(State {
-        stage: 1,
-        count: 0,
-        used: 0,
-        options: o,
-        cycle: c,
-        clock: 0.0,
-    })
+    Ok(Stage::Names(o))
 }
 
-// The bytes of `line` after its first two, at place `used` of `buffer`; false where there is no room.
-fn copy_name(line: &[u8], buffer: &mut [u8], used: usize) -> bool {
-    let mut to = used;
-    for b in line.iter().skip(2) {
-        if buffer.len() <= to {
-            return false;
+// The names so far, as a directory has them: one after the other, and where each ends.
+#[derive(Drop)]
+pub struct Names {
+    bytes: ArrayVec<u8, NAMES>,
+    ends: ArrayVec<u32, MAX_NAMES>,
+}
+
+impl Names {
+    pub fn new() -> Names {
+        Names {
+            bytes: ArrayVec::new(),
+            ends: ArrayVec::new(),
         }
-        buffer[to] = *b;
-        to += 1;
     }
-    true
-}
 
-// `n`: the name is what stands from the third byte of its line on. Which names there may be is checked when all have come.
-pub fn take_name(s: State, line: &[u8], buffer: &mut [u8], ends: &mut [u32]) -> Next {
-    let used = s.used;
-    let count = s.count;
-    if s.stage != 1 {
-        return Next::End;
+    pub fn count(&self) -> usize
+        ensures { result ≤ MAX_NAMES }
+    {
+        self.ends.len()
     }
-    if MAX_NAMES <= count {
-        return Next::End;
-    }
-    if ends.len() <= count {
-        return Next::End;
-    }
-    if 2 + MAX_NAME_LENGTH < line.len() {
-        return Next::End;
-    }
-    if line.len() < 2 {
-        return Next::End;
-    }
-    if buffer.len() < used {
-        return Next::End;
-    }
-    if !copy_name(line, buffer, used) {
-        return Next::End;
-    }
-    let end = used % 65536 + (line.len() - 2);
-    ends[count] = end as u32;
-    let o = s.options;
-    let c = s.cycle;
-    Next::On(State {
-        stage: 1,
-        count: count + 1,
-        used: end,
-        options: o,
-        cycle: c,
-        clock: s.clock,
-    })
-}
 
-// The first `s` or `c`: the directory is whole, and is checked. No settings are set, and no groups.
-pub fn begin<'a>(s: State, buffer: &'a [u8], ends: &'a [u32], b: &mut [u8]) -> Next
-    requires { IsBoard b.old }
-{
-    if s.stage == 2 {
-        return Next::On(s);
+    // `n`: one name more. Which names there may be is checked when all have come.
+    pub fn push(&mut self, name: &[u8]) -> Result<(), Stop> {
+        if MAX_NAME_LENGTH < name.len() || self.ends.is_full() {
+            return Err(Stop::Refused);
+        }
+        if self.bytes.try_extend_from_slice(name).is_err() {
+            return Err(Stop::Refused);
+        }
+        let end = self.bytes.len();
+        self.ends.push(end as u32);
+        Ok(())
     }
-    if s.stage != 1 {
-        return Next::End;
+
+    // The first `s` or `c`: the directory is whole, and is checked. No settings are set, and no groups.
+    pub fn begin(&self, options: Options, b: &mut [u8]) -> Result<Calls, Stop>
+        requires { IsBoard b.old }
+    {
+        let bytes = self.bytes.as_slice();
+        let ends = self.ends.as_slice();
+        if tags_in(b) != ends.len() || directory::check_in(bytes, ends) != 0 {
+            return Err(Stop::Refused);
+        }
+        create(b, bytes, ends, b"", b"");
+        Ok(Calls::new(options))
     }
-    let count = s.count;
-    let used = s.used;
-    if ends.len() < count {
-        return Next::End;
-    }
-    if buffer.len() < used {
-        return Next::End;
-    }
-    if tags_in(b) != count {
-        return Next::End;
-    }
-    let n = &buffer[0..used];
-    let e = &ends[0..count];
-    if directory::check_in(n, e) != 0 {
-        return Next::End;
-    }
-    create(b, n, e, b"", b"");
-    let o = s.options;
-    let c = s.cycle;
-    Next::On(State {
-        stage: 2,
-        count: count,
-        used: used,
-        options: o,
-        cycle: c,
-        clock: s.clock,
-    })
 }

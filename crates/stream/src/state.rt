@@ -1,58 +1,57 @@
-// How far a listing has come.
+// How far a listing has come, and why it stops.
 use heads::cycle::Cycle;
 use heads::options::Options;
+use ieee::times::{is_clock, seconds};
+use std::io;
 
-// stage: 0 before the options, 1 while names come, 2 from the first `s` or `c` on. `used` is how many bytes of names
-// there are, `clock` the last time accepted.
+// The options come first, then names, and then, from the first `s` or `c` on, calls.
 #[derive(Clone, Copy)]
-pub struct State {
-    pub stage: u8,
-    pub count: usize,
-    pub used: usize,
+pub enum Stage {
+    Start,
+    Names(Options),
+    Calls(Calls),
+}
+
+// `clock` is the last time accepted.
+#[derive(Clone, Copy)]
+pub struct Calls {
     pub options: Options,
     pub cycle: Cycle,
     pub clock: f64,
 }
 
-// A line that is refused ends the listing.
-#[derive(Clone, Copy)]
-pub enum Next {
-    On(State),
-    End,
-}
-
-impl State {
-    pub fn new() -> State {
-        let options = Options {
-            cycle: 0.0,
-            period: 0.0,
-            grace: 0.0,
-        };
-        let cycle = Cycle {
-            begun: false,
-            last: 0.0,
-            index: 0,
-        };
-        State {
-            stage: 0,
-            count: 0,
-            used: 0,
-            options: options,
-            cycle: cycle,
+impl Calls {
+    // Before the first.
+    pub fn new(options: Options) -> Calls {
+        Calls {
+            options,
+            cycle: Cycle {
+                last: None,
+                index: 0,
+            },
             clock: 0.0,
         }
     }
 
-    // The time of an accepted call.
-    pub fn at(self, clock: f64, cycle: Cycle) -> State {
-        let options = self.options;
-        State {
-            stage: self.stage,
-            count: self.count,
-            used: self.used,
-            options: options,
-            cycle: cycle,
-            clock: clock,
+    // The time of a call, given in whole milliseconds. It does not go back.
+    pub fn time(self, ms: u64) -> Result<f64, Stop> {
+        let clock = seconds(ms);
+        if !is_clock(clock) || clock < self.clock {
+            return Err(Stop::Refused);
         }
+        Ok(clock)
+    }
+}
+
+// A line that is refused ends the listing, and so does a read or write that fails.
+#[derive(Drop)]
+pub enum Stop {
+    Refused,
+    Failed(io::Error),
+}
+
+impl From<io::Error> for Stop {
+    fn from(e: io::Error) -> Stop {
+        Stop::Failed(e)
     }
 }

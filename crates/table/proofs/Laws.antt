@@ -7,9 +7,10 @@ use native.Mathlib.Omega.{arith}
 use borrow.Author.Tests.{ne_eqb}
 use lib.Dec.{ltb}
 use lib.Ieee.{binary64, of_bits}
+use Rattle.words.specs.Time.{time_from}
 use Rattle.words.specs.Entry.{held_from}
 use Rattle.words.specs.declared.entry.EntryWords.{EntryWords}
-use Rattle.table.specs.Row.{description_from, tag_from}
+use Rattle.table.specs.Row.{grace_from, group_from, description_from, tag_from}
 use Rattle.table.specs.declared.tag.Tag.{Tag}
 use Rattle.table.specs.declared.tag.Description.TheVariants.{Is}
 
@@ -19,11 +20,9 @@ description_coded n h =
     rw (ne_eqb (n + 2) 0 (λ e. omega arith), ne_eqb (n + 2) 1 (λ e. omega arith), less, mod-eq_of_lt h)
 
 pub tag_coded : (x : Tag) (tier on deadline after read last missing retry added wants description band grouped group rate described : ℕ) (c p : EntryWords)
-    → tier % 256 ≡ x.tier → ltb 0 on ≡ x.grace.on → of_bits binary64 deadline ≡ x.grace.deadline → after % 256 ≡ x.grace.after
-    → ltb 0 read ≡ x.timing.read → of_bits binary64 last ≡ x.timing.last → ltb 0 missing ≡ x.timing.missing → of_bits binary64 retry ≡ x.timing.retry
+    → tier % 256 ≡ x.tier → grace_from on deadline after ≡ x.grace → time_from read last ≡ x.timing.last → time_from missing retry ≡ x.timing.retry
     → ltb 0 added ≡ x.added → ltb 0 wants ≡ x.wants → description_from description ≡ x.description
-    → of_bits binary64 band ≡ x.settings.band → ltb 0 grouped ≡ x.settings.grouped → group % 256 ≡ x.settings.group
-    → rate % 0x1_0000_0000 ≡ x.settings.rate → ltb 0 described ≡ x.settings.described
+    → of_bits binary64 band ≡ x.settings.band → group_from grouped group rate ≡ x.settings.group → ltb 0 described ≡ x.settings.described
     → held_from c ≡ x.cached → held_from p ≡ x.published
     → tag_from (
     tier ∷ on ∷ deadline ∷ after ∷ read ∷ last ∷ missing ∷ retry ∷ added ∷ wants ∷ description ∷ band ∷ grouped ∷ group ∷ rate ∷ described
@@ -31,5 +30,5 @@ pub tag_coded : (x : Tag) (tier on deadline after read last missing retry added 
     ∷ p.held ∷ p.kind ∷ p.word ∷ p.t ∷ p.error ∷ p.message ∷ 0 ∷ 0 ∷ []
     ) ≡ x
 unfolding tag_from
-tag_coded x tier on deadline after read last missing retry added wants description band grouped group rate described c p e1 e2 e3 e4 e5 e6 e7 e8 e9 e10 e11 e12 e13 e14 e15 e16 e17 e18 =
-    rw (e1, e2, e3, e4, e5, e6, e7, e8, e9, e10, e11, e12, e13, e14, e15, e16, e17, e18)
+tag_coded x tier on deadline after read last missing retry added wants description band grouped group rate described c p e1 e2 e3 e4 e5 e6 e7 e8 e9 e10 e11 e12 =
+    rw (e1, e2, e3, e4, e5, e6, e7, e8, e9, e10, e11, e12)

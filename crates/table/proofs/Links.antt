@@ -8,10 +8,10 @@ use Rattle.table.proofs.TheLink as link
 use Rattle.table.proofs.TheLinks.table-codec-description_from
 use Rattle.table.proofs.TheLinks.table-codec-description_word
 use Rattle.table.proofs.TheLinks.table-codec-grace_from
+use Rattle.table.proofs.TheLinks.table-codec-grace_words
 use Rattle.table.proofs.TheLinks.table-codec-settings_from
 use Rattle.table.proofs.TheLinks.table-codec-timing_from
 use Rattle.table.proofs.TheLinks.table-put_tag
-use Rattle.table.proofs.TheLinks.table-tag-Grace-none
 use Rattle.table.proofs.TheLinks.table-tag-Settings-none
 use Rattle.table.proofs.TheLinks.table-tag_of
 
@@ -33,6 +33,9 @@ codec_description_word = link.linked-table::codec::description_word
 pub codec_grace_from : Linked table-codec-grace_from.code
 codec_grace_from = link.linked-table::codec::grace_from
 
+pub codec_grace_words : Linked table-codec-grace_words.code
+codec_grace_words = link.linked-table::codec::grace_words
+
 pub codec_settings_from : Linked table-codec-settings_from.code
 codec_settings_from = link.linked-table::codec::settings_from
 
@@ -41,9 +44,6 @@ codec_timing_from = link.linked-table::codec::timing_from
 
 pub put_tag : Linked table-put_tag.code
 put_tag = link.linked-table::put_tag
-
-pub tag_Grace_none : Linked table-tag-Grace-none.code
-tag_Grace_none = link.linked-table::tag::Grace::none
 
 pub tag_Settings_none : Linked table-tag-Settings-none.code
 tag_Settings_none = link.linked-table::tag::Settings::none

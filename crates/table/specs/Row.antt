@@ -1,30 +1,31 @@
 -- The tag that a row of 32 cells holds. The cached entry begins at cell 16, the published one at cell 24; the two cells behind each are spare.
-use Rattle.std.specs.Prelude.{cond, List, ℕ, ◌+◌, ◌-◌, ◌%◌, eqb, ltb, get_or, set}
+use Rattle.std.specs.Prelude.{cond, List, ℕ, ◌+◌, ◌-◌, ◌%◌, eqb, ltb, get_or, set, Option, Some, None}
 use Rattle.std.specs.Float.{binary64}
 use Rattle.std.specs.Float.Ieee.{of_bits}
+use Rattle.words.specs.Time.{time_from}
 use Rattle.words.specs.Entry.{held_from}
 use Rattle.words.specs.declared.entry.EntryWords.{EntryWords}
 use Rattle.table.specs.declared.tag.Grace.{Grace}
 use Rattle.table.specs.declared.tag.Timing.{Timing}
+use Rattle.table.specs.declared.tag.GroupRate.{GroupRate}
 use Rattle.table.specs.declared.tag.Settings.{Settings}
 use Rattle.table.specs.declared.tag.Description.{Description}
 use Rattle.table.specs.declared.tag.Description.TheVariants.{Unknown, Nothing, Is}
 use Rattle.table.specs.declared.tag.Tag.{Tag}
 
-abbrev pub grace_from : ℕ → ℕ → ℕ → Grace
-grace_from on deadline after = record { on = ltb 0 on; deadline = of_bits binary64 deadline; after = after % 256 }
+-- in no grace where the first is 0
+abbrev pub grace_from : ℕ → ℕ → ℕ → Option Grace
+grace_from on deadline after = cond (eqb on 0) None (Some (record { deadline = of_bits binary64 deadline; after = after % 256 }))
 
 abbrev pub timing_from : ℕ → ℕ → ℕ → ℕ → Timing
-timing_from read last missing retry = record { read = ltb 0 read; last = of_bits binary64 last; missing = ltb 0 missing; retry = of_bits binary64 retry }
+timing_from read last missing retry = record { last = time_from read last; retry = time_from missing retry }
+
+-- in no group where the first is 0
+abbrev pub group_from : ℕ → ℕ → ℕ → Option GroupRate
+group_from grouped number rate = cond (eqb grouped 0) None (Some (record { number = number % 256; rate = rate % 0x1_0000_0000 }))
 
 abbrev pub settings_from : ℕ → ℕ → ℕ → ℕ → ℕ → Settings
-settings_from band grouped group rate described = record {
-  band = of_bits binary64 band;
-  grouped = ltb 0 grouped;
-  group = group % 256;
-  rate = rate % 0x1_0000_0000;
-  described = ltb 0 described;
-}
+settings_from band grouped group rate described = record { band = of_bits binary64 band; group = group_from grouped group rate; described = ltb 0 described }
 
 -- 0 unknown, 1 none, and otherwise the number and 2
 abbrev pub description_from : ℕ → Description

@@ -1,10 +1,9 @@
 -- The tags that lent memory holds, by rank, and a tag with one part replaced.
-use Rattle.std.specs.Prelude.{Bool, true, false, List, map, ℕ, min, Float, length}
+use Rattle.std.specs.Prelude.{Bool, List, map, ℕ, min, Float, length, Option, Some, None}
 use Rattle.lists.specs.Keep.{up_to}
 use Rattle.memory.specs.Cells.{rows_in}
 use Rattle.values.specs.declared.entry.Entry.{Entry}
-use Rattle.values.specs.declared.entry.Held.TheVariants.{None, Is}
-use Rattle.table.specs.Tag.{f0, no_timing}
+use Rattle.table.specs.Tag.{no_timing}
 use Rattle.table.specs.Row.{tag_from}
 use Rattle.table.specs.declared.tag.Grace.{Grace}
 use Rattle.table.specs.declared.tag.Timing.{Timing}
@@ -19,7 +18,7 @@ table_in bs = map tag_from (rows_in bs)
 abbrev pub by_rank : List Tag → List ℕ
 by_rank tags = up_to (min (length tags) 65536)
 
-abbrev pub with_grace : Tag → Grace → Tag
+abbrev pub with_grace : Tag → Option Grace → Tag
 with_grace x g = record {
   tier = x.tier;
   grace = g;
@@ -47,11 +46,11 @@ with_timing x m = record {
 
 -- read at the clock time `at`
 abbrev pub with_last : Tag → Float → Tag
-with_last x at = with_timing x (record { read = true; last = at; missing = x.timing.missing; retry = x.timing.retry })
+with_last x at = with_timing x (record { last = Some at; retry = x.timing.retry })
 
--- missing, to be asked for again at `retry`, or not missing
-abbrev pub with_mark : Tag → Bool → Float → Tag
-with_mark x missing retry = with_timing x (record { read = x.timing.read; last = x.timing.last; missing = missing; retry = retry })
+-- missing, to be asked for again at a time, or not missing
+abbrev pub with_mark : Tag → Option Float → Tag
+with_mark x retry = with_timing x (record { last = x.timing.last; retry = retry })
 
 abbrev pub with_added : Tag → Bool → Tag
 with_added x b = record {
@@ -92,11 +91,15 @@ with_description x d = record {
   published = x.published;
 }
 
--- in grace to the same deadline, the tier `after` following
-abbrev pub with_after : Tag → ℕ → Tag
-with_after x after = with_grace x (record { on = true; deadline = x.grace.deadline; after = after })
+-- the same grace, the tier `after` following
+abbrev pub followed : Option Grace → ℕ → Option Grace
+followed None after = None
+followed (Some g) after = Some (record { deadline = g.deadline; after = after })
 
-abbrev pub with_standing : Tag → ℕ → Grace → Bool → Bool → Tag
+abbrev pub with_after : Tag → ℕ → Tag
+with_after x after = with_grace x (followed x.grace after)
+
+abbrev pub with_standing : Tag → ℕ → Option Grace → Bool → Bool → Tag
 with_standing x tier g added wants = record {
   tier = tier;
   grace = g;
@@ -119,7 +122,7 @@ with_cached x e = record {
   wants = x.wants;
   description = x.description;
   settings = x.settings;
-  cached = Is e;
+  cached = Some e;
   published = x.published;
 }
 
@@ -134,12 +137,12 @@ with_published x e = record {
   description = x.description;
   settings = x.settings;
   cached = x.cached;
-  published = Is e;
+  published = Some e;
 }
 
 -- never read
 abbrev pub without_last : Tag → Tag
-without_last x = with_timing x (record { read = false; last = f0; missing = x.timing.missing; retry = x.timing.retry })
+without_last x = with_timing x (record { last = None; retry = x.timing.retry })
 
 -- never read, not missing, with no entry
 abbrev pub without_readings : Tag → Tag

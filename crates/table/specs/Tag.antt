@@ -1,8 +1,7 @@
 -- A tag of which nothing is known, and its parts.
-use Rattle.std.specs.Prelude.{false, Float}
+use Rattle.std.specs.Prelude.{false, Float, Option, None}
 use Rattle.std.specs.Float.{binary64}
 use Rattle.std.specs.Float.Ieee.{of_bits}
-use Rattle.values.specs.declared.entry.Held.TheVariants.{None}
 use Rattle.table.specs.declared.tag.Grace.{Grace}
 use Rattle.table.specs.declared.tag.Timing.{Timing}
 use Rattle.table.specs.declared.tag.Settings.{Settings}
@@ -13,14 +12,14 @@ use Rattle.table.specs.declared.tag.Tag.{Tag}
 abbrev pub f0 : Float
 f0 = of_bits binary64 0
 
-abbrev pub no_grace : Grace
-no_grace = record { on = false; deadline = f0; after = 0 }
+abbrev pub no_grace : Option Grace
+no_grace = None
 
 abbrev pub no_timing : Timing
-no_timing = record { read = false; last = f0; missing = false; retry = f0 }
+no_timing = record { last = None; retry = None }
 
 abbrev pub no_settings : Settings
-no_settings = record { band = f0; grouped = false; group = 0; rate = 0; described = false }
+no_settings = record { band = f0; group = None; described = false }
 
 abbrev pub fresh_tag : Tag
 fresh_tag = record {

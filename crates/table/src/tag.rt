@@ -1,33 +1,35 @@
 // What the engine keeps of a tag.
 ghost use Rattle.std.specs.Prelude.{◌≡◌};
-ghost use Rattle.table.specs.Tag.{no_grace, no_timing, no_settings, fresh_tag};
+ghost use Rattle.table.specs.Tag.{no_timing, no_settings, fresh_tag};
 
-use values::entry::Held;
+use values::entry::Entry;
 
 // A tag that left tier 1 stays in tier 2 up to the deadline, and then goes to the tier `after`, 0 for none.
 #[derive(Clone, Copy)]
 pub struct Grace {
-    pub on: bool,
     pub deadline: f64,
     pub after: u8,
 }
 
-// When the tag was last listed in tier 1, and, if it is missing, when to ask for it again.
+// When the tag was last listed in tier 1, if it was, and when to ask for it again, if it is missing.
 #[derive(Clone, Copy)]
 pub struct Timing {
-    pub read: bool,
-    pub last: f64,
-    pub missing: bool,
-    pub retry: f64,
+    pub last: Option<f64>,
+    pub retry: Option<f64>,
 }
 
-// What the host sets for a tag: the deadband, a group with its rate in milliseconds, and whether it has a description.
+// A group, and its rate in milliseconds.
+#[derive(Clone, Copy)]
+pub struct GroupRate {
+    pub number: u8,
+    pub rate: u32,
+}
+
+// What the host sets for a tag: the deadband, its group if it has one, and whether it has a description.
 #[derive(Clone, Copy)]
 pub struct Settings {
     pub band: f64,
-    pub grouped: bool,
-    pub group: u8,
-    pub rate: u32,
+    pub group: Option<GroupRate>,
     pub described: bool,
 }
 
@@ -43,26 +45,14 @@ pub enum Description {
 #[derive(Clone, Copy)]
 pub struct Tag {
     pub tier: u8,
-    pub grace: Grace,
+    pub grace: Option<Grace>,
     pub timing: Timing,
     pub added: bool,
     pub wants: bool,
     pub description: Description,
     pub settings: Settings,
-    pub cached: Held,
-    pub published: Held,
-}
-
-impl Grace {
-    pub fn none() -> Grace
-        ensures { result ≡ no_grace }
-    {
-        Grace {
-            on: false,
-            deadline: 0.0,
-            after: 0,
-        }
-    }
+    pub cached: Option<Entry>,
+    pub published: Option<Entry>,
 }
 
 impl Timing {
@@ -70,10 +60,8 @@ impl Timing {
         ensures { result ≡ no_timing }
     {
         Timing {
-            read: false,
-            last: 0.0,
-            missing: false,
-            retry: 0.0,
+            last: None,
+            retry: None,
         }
     }
 }
@@ -84,9 +72,7 @@ impl Settings {
     {
         Settings {
             band: 0.0,
-            grouped: false,
-            group: 0,
-            rate: 0,
+            group: None,
             described: false,
         }
     }
@@ -96,19 +82,16 @@ impl Tag {
     pub fn fresh() -> Tag
         ensures { result ≡ fresh_tag }
     {
-        let grace = Grace::none();
-        let timing = Timing::none();
-        let settings = Settings::none();
         Tag {
             tier: 0,
-            grace: grace,
-            timing: timing,
+            grace: None,
+            timing: Timing::none(),
             added: false,
             wants: false,
             description: Description::Unknown,
-            settings: settings,
-            cached: Held::None,
-            published: Held::None,
+            settings: Settings::none(),
+            cached: None,
+            published: None,
         }
     }
 }

@@ -17,10 +17,7 @@ pub fn count(s: &[u8]) -> usize
     }
     let n = halves::half(s, 0);
     let places = size - 1;
-    if n < places {
-        return n;
-    }
-    places
+    if n < places { n } else { places }
 }
 
 // How many tags the slice has room for; the count has to fit its half too.
@@ -31,19 +28,17 @@ pub fn room_of(s: &[u8]) -> usize
     if size == 0 {
         return 0;
     }
-    if size - 1 < 65535 {
-        return size - 1;
-    }
-    65535
+    if size - 1 < 65535 { size - 1 } else { 65535 }
 }
 
 pub fn at(s: &[u8], i: usize) -> usize
     ensures { result ≡ get_or (list_in s.now) i 0 }
 {
     if i < count(s) {
-        return halves::half(s, i + 1);
+        halves::half(s, i + 1)
+    } else {
+        0
     }
-    0
 }
 
 pub fn clear(s: &mut [u8])
@@ -75,13 +70,10 @@ pub fn shorten(s: &mut [u8], n: usize)
 pub fn contains(s: &[u8], k: usize) -> bool
     ensures { result ≡ member k (list_in s.now) }
 {
-    let n = count(s);
-    let mut i: usize = 0;
-    while i < n {
+    for i in 0..count(s) {
         if bytes::half(s, i + 1) == k {
             return true;
         }
-        i += 1;
     }
     false
 }
@@ -92,19 +84,14 @@ pub fn insert_at(s: &mut [u8], p: usize, k: usize)
     ensures { list_in s.new ≡ inserted_at (room s.old) p (k % 65536) (list_in s.old) }
 {
     let n = count(s);
-    if n < p {
-        return;
-    }
-    if room_of(s) <= n {
+    if n < p || room_of(s) <= n {
         return;
     }
     let mut x = k;
-    let mut i = p;
-    while i < n {
+    for i in p..n {
         let next = bytes::half(s, i + 1);
         bytes::put_half(s, i + 1, x);
         x = next;
-        i += 1;
     }
     bytes::put_half(s, n + 1, x);
     bytes::put_half(s, 0, n + 1);

@@ -5,7 +5,7 @@ use Prim.Native.Nat.{ℕ}
 use lib.Dec.{eqb}
 use lib.Ieee.{Float, le}
 use lib.ListN.{get_or, set}
-use Rattle.values.specs.declared.entry.Held.TheVariants.{None}
+use Rattle.std.specs.Prelude.{None, Option, is_some}
 use Rattle.table.specs.Tag.{f0, no_timing, fresh_tag}
 use Rattle.table.specs.Table.{with_grace, with_standing, without_last, without_readings}
 use Rattle.table.specs.declared.tag.Grace.{Grace}
@@ -15,7 +15,7 @@ use Rattle.board.specs.Board.{Table, Board, tag_at, is_bit, with_table, with_tag
 use Rattle.tiers.specs.Tiers.{timing_set, added_set, wants_set, tag_set, kept_for, order_set, grace_ended, put_table, set_table, set_tier}
 
 -- standing first, then what is kept: the tag put in a tier
-pub standing_kept : (x : Tag) (bit : Bool) (tier : ℕ) (g : Grace)
+pub standing_kept : (x : Tag) (bit : Bool) (tier : ℕ) (g : Option Grace)
     → kept_for (with_standing x tier g (added_set x tier) (wants_set x bit tier)) tier ≡ with_grace (tag_set x bit tier) g
 unfolding tag_set timing_set
 standing_kept x bit tier g = go (eqb tier 0) (eqb tier 1) (added_set x tier) (wants_set x bit tier)
@@ -25,7 +25,7 @@ standing_kept x bit tier g = go (eqb tier 0) (eqb tier 1) (added_set x tier) (wa
         ≡ record {
           tier = tier;
           grace = g;
-          timing = cond none no_timing (cond one x.timing (record { read = false; last = f0; missing = x.timing.missing; retry = x.timing.retry }));
+          timing = cond none no_timing (cond one x.timing (record { last = None; retry = x.timing.retry }));
           added = added;
           wants = wants;
           description = x.description;
@@ -48,11 +48,11 @@ set-at_once T k tier grace clock e = rw e (go (eqb tier 1) (eqb tier 2))
     go false false = refl
 
 -- standing, then what is kept, then the order, then the graces
-pub put_steps : (B B1 B2 B3 B4 : Board) (k tier : ℕ) (g : Grace)
+pub put_steps : (B B1 B2 B3 B4 : Board) (k tier : ℕ) (g : Option Grace)
     → B1 ≡ with_tag B k (with_standing (tag_at B.table k) tier g (added_set (tag_at B.table k) tier) (wants_set (tag_at B.table k) (is_bit B.table k) tier))
     → B2 ≡ with_tag B1 k (kept_for (tag_at B1.table k) tier)
     → B3 ≡ with_order B2 (order_set B2.table.room B2.table.order k (tag_at B.table k).tier tier)
-    → B4 ≡ with_graces B3 (grace_ended B3.table.graces k (tag_at B.table k).grace.on)
+    → B4 ≡ with_graces B3 (grace_ended B3.table.graces k (is_some (tag_at B.table k).grace))
     → B4 ≡ with_table B (put_table B.table k tier g)
 unfolding put_table
 put_steps B B1 B2 B3 B4 k tier g e1 e2 e3 e4 =

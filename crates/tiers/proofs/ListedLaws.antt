@@ -9,12 +9,13 @@ use lib.Dec.{eqb, ltb}
 use lib.Ieee.{Float, le, add, binary64}
 use lib.ListN.{length, get_or, set, length-set, get_or-eq_default}
 use lib.Seq.{get_or-set_same, get_or-set_other}
+use Rattle.std.specs.Prelude.{Option, Some, is_some}
 use Rattle.lists.specs.Keep.{count, Below}
 use Rattle.lists.proofs.KeepLaws.{count-append, count-without, count-without_other, below-append, below-keep}
 use Rattle.lists.proofs.CountLaws.{below_counts, length_fewer}
 use Rattle.tags.specs.Lists.{pushed}
 use Rattle.table.specs.Tag.{f0, no_grace, fresh_tag}
-use Rattle.table.specs.Table.{with_grace}
+use Rattle.table.specs.Table.{with_grace, with_after}
 use Rattle.table.specs.declared.tag.Grace.{Grace}
 use Rattle.table.specs.declared.tag.Tag.{Tag}
 use Rattle.tiers.specs.Tiers.{tag_set, order_set, grace_ended, put_table, set_table, with_tag_graces, grace_until, enter_grace, change_grace, set_tier}
@@ -76,11 +77,11 @@ module _ (T : Table) (l : Listed T) where
   order-room k h z = omega (arith, length_fewer (length T.tags) k T.order order_below order_once h (l.once k ∙ ap in_tier z), l.enough)
 
   -- a tag put in a tier, with a grace or none
-  listed_put : (k tier : ℕ) (g : Grace) → k < length T.tags → Listed (put_table T k tier g)
+  listed_put : (k tier : ℕ) (g : Option Grace) → k < length T.tags → Listed (put_table T k tier g)
   unfolding put_table tag_set
   listed_put k tier g h = record {
     once = λ j. go j (eqb j k) refl;
-    graced = rw (length-set T.tags k x) (below-ended (length T.tags) k T.graces (tag_at T k).grace.on l.graced);
+    graced = rw (length-set T.tags k x) (below-ended (length T.tags) k T.graces (is_some (tag_at T k).grace) l.graced);
     enough = rw (length-set T.tags k x) l.enough;
   }
     where
@@ -124,7 +125,7 @@ either P true x y p q = p
 either P false x y p q = q
 
 module _ (T : Table) (l : Listed T) (k : ℕ) (h : k < length T.tags) where
-  pub put_long : (tier : ℕ) (g : Grace) → length (put_table T k tier g).tags ≡ length T.tags
+  pub put_long : (tier : ℕ) (g : Option Grace) → length (put_table T k tier g).tags ≡ length T.tags
   unfolding put_table
   put_long tier g = length-set T.tags k (with_grace (tag_set (tag_at T k) (is_bit T k) tier) g)
 
@@ -134,13 +135,13 @@ module _ (T : Table) (l : Listed T) (k : ℕ) (h : k < length T.tags) where
   pub listed_enter : (deadline : Float) (after : ℕ) → Listed (enter_grace T k deadline after)
   unfolding enter_grace
   listed_enter deadline after =
-      let m = put_table T k 2 (grace_until deadline after) in
-      let lm : Listed m = listed_put T l k 2 (grace_until deadline after) h in
-      let hm : k < length m.tags = rw (put_long 2 (grace_until deadline after)) h in
+      let m = put_table T k 2 (Some (grace_until deadline after)) in
+      let lm : Listed m = listed_put T l k 2 (Some (grace_until deadline after)) h in
+      let hm : k < length m.tags = rw (put_long 2 (Some (grace_until deadline after))) h in
       record { once = lm.once; graced = below-pushed (length m.tags) m.room k m.graces lm.graced hm; enough = lm.enough }
 
   pub listed_change : (after : ℕ) → Listed (change_grace T k after)
-  listed_change after = listed_tag T l k (with_grace (tag_at T k) (grace_until (tag_at T k).grace.deadline after)) T.graces h refl l.graced
+  listed_change after = listed_tag T l k (with_after (tag_at T k) after) T.graces h refl l.graced
 
   -- Rule 5: a tier call.
   pub listed_tier : (tier : ℕ) (grace clock : Float) → Listed (set_tier T k tier grace clock)
@@ -151,4 +152,4 @@ module _ (T : Table) (l : Listed T) (k : ℕ) (h : k < length T.tags) where
       (either Listed (eqb tier 2) _ _ now
       (either Listed (le grace f0) _ _ now
       (either Listed (eqb (tag_at T k).tier 1) _ _ (listed_enter (add binary64 clock grace) tier)
-      (either Listed (tag_at T k).grace.on _ _ (listed_change tier) now))))
+      (either Listed (is_some (tag_at T k).grace) _ _ (listed_change tier) now))))

@@ -1,22 +1,21 @@
 -- Rule 5: tiers.
-use Rattle.std.specs.Prelude.{Bool, true, false, not, ◌&&◌, ◌||◌, cond, List, ℕ, eqb, Float, get_or, set}
+use Rattle.std.specs.Prelude.{Bool, not, ◌&&◌, ◌||◌, cond, List, ℕ, eqb, Float, get_or, set, Option, None, is_some, Some}
 use Rattle.std.specs.Float.{binary64}
 use Rattle.std.specs.Float.Ieee.{add, le}
 use Rattle.lists.specs.Keep.{without}
 use Rattle.tags.specs.Lists.{pushed}
-use Rattle.values.specs.declared.entry.Held.{Held}
-use Rattle.values.specs.declared.entry.Held.TheVariants.{None}
 use Rattle.table.specs.Tag.{f0, no_grace, no_timing, fresh_tag}
-use Rattle.table.specs.Table.{with_grace, without_last, without_readings}
+use Rattle.table.specs.Table.{with_grace, without_last, without_readings, with_after}
 use Rattle.table.specs.declared.tag.Grace.{Grace}
 use Rattle.table.specs.declared.tag.Timing.{Timing}
 use Rattle.table.specs.declared.tag.Tag.{Tag}
 use Rattle.board.specs.Board.{Table, tag_at, is_bit}
+use Rattle.values.specs.declared.entry.Entry.{Entry}
 
 -- Rule 5: leaving forgets the missing mark, and any setting but tier 1 forgets the last reading time.
 unfoldable pub timing_set : Timing → ℕ → Timing
 timing_set x tier =
-    cond (eqb tier 0) no_timing (cond (eqb tier 1) x (record { read = false; last = f0; missing = x.missing; retry = x.retry }))
+    cond (eqb tier 0) no_timing (cond (eqb tier 1) x (record { last = None; retry = x.retry }))
 
 -- Rule 6: new in tier 2 is a tag put there from none or tier 3 and not moved since.
 abbrev pub added_from : ℕ → Bool → ℕ → Bool
@@ -33,7 +32,7 @@ abbrev pub wants_set : Tag → Bool → ℕ → Bool
 wants_set x bit tier = wants_from x.tier x.wants bit tier
 
 -- Rule 5: leaving forgets an entry.
-abbrev pub held_set : Held → ℕ → Held
+abbrev pub held_set : Option Entry → ℕ → Option Entry
 held_set h tier = cond (eqb tier 0) None h
 
 -- Rule 5: a tag put in a tier (0 for none) at once: a grace ends; leaving forgets cache, published, missing mark and wanted description, and keeps the known description.
@@ -63,11 +62,11 @@ unfoldable pub grace_ended : List ℕ → ℕ → Bool → List ℕ
 grace_ended graces k on = cond on (without k graces) graces
 
 -- the tag k put in a tier, with a grace or none
-unfoldable pub put_table : Table → ℕ → ℕ → Grace → Table
+unfoldable pub put_table : Table → ℕ → ℕ → Option Grace → Table
 put_table T k tier g = record {
   tags = set T.tags k (with_grace (tag_set (tag_at T k) (is_bit T k) tier) g);
   order = order_set T.room T.order k (tag_at T k).tier tier;
-  graces = grace_ended T.graces k (tag_at T k).grace.on;
+  graces = grace_ended T.graces k (is_some (tag_at T k).grace);
   room = T.room;
   words = T.words;
 }
@@ -81,17 +80,17 @@ abbrev pub with_tag_graces : Table → ℕ → Tag → List ℕ → Table
 with_tag_graces T k x graces = record { tags = set T.tags k x; order = T.order; graces = graces; room = T.room; words = T.words }
 
 abbrev pub grace_until : Float → ℕ → Grace
-grace_until deadline after = record { on = true; deadline = deadline; after = after }
+grace_until deadline after = record { deadline = deadline; after = after }
 
 -- Rule 5: the tag becomes tier 2 with a deadline; the tier `after` follows.
 unfoldable pub enter_grace : Table → ℕ → Float → ℕ → Table
 enter_grace T k deadline after =
-    let m = put_table T k 2 (grace_until deadline after) in
+    let m = put_table T k 2 (Some (grace_until deadline after)) in
     record { tags = m.tags; order = m.order; graces = pushed m.room m.graces k; room = m.room; words = m.words }
 
 -- Rule 5: asked again in grace it changes only what follows.
 abbrev pub changed_tags : List Tag → ℕ → ℕ → List Tag
-changed_tags tags k after = set tags k (with_grace (get_or tags k fresh_tag) (grace_until (get_or tags k fresh_tag).grace.deadline after))
+changed_tags tags k after = set tags k (with_after (get_or tags k fresh_tag) after)
 
 abbrev pub change_grace : Table → ℕ → ℕ → Table
 change_grace T k after = record { tags = changed_tags T.tags k after; order = T.order; graces = T.graces; room = T.room; words = T.words }
@@ -104,5 +103,5 @@ set_tier T k tier grace clock =
     (cond (eqb tier 2) (set_table T k tier)
     (cond (le grace f0) (set_table T k tier)
     (cond (eqb (tag_at T k).tier 1) (enter_grace T k (add binary64 clock grace) tier)
-    (cond (tag_at T k).grace.on (change_grace T k tier)
+    (cond (is_some (tag_at T k).grace) (change_grace T k tier)
     (set_table T k tier)))))

@@ -14,12 +14,7 @@ fn enter_grace(b: &mut [u8], k: u16, deadline: f64, after: u8)
     requires { IsBoard b.old }
     ensures { Holds b.new (with_table (board_in b.old) (enter_grace (board_in b.old).table k deadline after)) }
 {
-    let g = Grace {
-        on: true,
-        deadline: deadline,
-        after: after,
-    };
-    put(b, k, 2, g);
+    put(b, k, 2, Some(Grace { deadline, after }));
     push_grace(b, k);
 }
 
@@ -36,26 +31,14 @@ pub fn set_tier(b: &mut [u8], k: u16, tier: u8, grace: f64, clock: f64)
     requires { IsBoard b.old }
     ensures { Holds b.new (with_table (board_in b.old) (set_tier (board_in b.old).table k tier grace clock)) }
 {
-    if grace <= 0.0 {
-        set(b, k, tier);
-        return;
-    }
-    if tier == 1 {
-        set(b, k, tier);
-        return;
-    }
-    if tier == 2 {
-        set(b, k, tier);
-        return;
+    if grace <= 0.0 || tier == 1 || tier == 2 {
+        return set(b, k, tier);
     }
     if tier_of(b, k as usize) == 1 {
-        enter_grace(b, k, clock + grace, tier);
-        return;
+        return enter_grace(b, k, clock + grace, tier);
     }
-    let g = grace_of(b, k as usize);
-    if g.on {
-        change_grace(b, k, tier);
-        return;
+    match grace_of(b, k as usize) {
+        None => set(b, k, tier),
+        Some(_) => change_grace(b, k, tier),
     }
-    set(b, k, tier);
 }

@@ -1,5 +1,5 @@
 // A tag put in a tier at once.
-ghost use Rattle.std.specs.Prelude.{◌≡◌};
+ghost use Rattle.std.specs.Prelude.{◌≡◌, is_some};
 ghost use Rattle.tiers.specs.Tiers.{added_from, wants_from, kept_for, order_set, grace_ended, put_table, set_table};
 ghost use Rattle.board.specs.Board.{with_table, tag_at};
 ghost use Rattle.board.specs.Layout.{IsBoard};
@@ -29,55 +29,48 @@ fn forget_for(b: &mut [u8], k: usize, tier: u8)
     requires { IsBoard b.old }
     ensures { Holds b.new (with_tag (board_in b.old) k (kept_for (tag_at (board_in b.old).table k) tier)) }
 {
-    if tier == 0 {
-        forget(b, k);
-        return;
+    match tier {
+        0 => forget(b, k),
+        1 => {}
+        _ => forget_last(b, k),
     }
-    if tier == 1 {
-        return;
-    }
-    forget_last(b, k);
 }
 
 fn order_set(b: &mut [u8], k: u16, old: u8, new: u8)
     requires { IsBoard b.old }
     ensures { Holds b.new (with_order (board_in b.old) (order_set (board_in b.old).table.room (board_in b.old).table.order k old new)) }
 {
-    if old == 0 {
-        if new != 0 {
-            push_order(b, k);
-        }
-        return;
-    }
-    if new == 0 {
-        remove_order(b, k);
+    match (old, new) {
+        (0, 0) => {}
+        (0, _) => push_order(b, k),
+        (_, 0) => remove_order(b, k),
+        _ => {}
     }
 }
 
-fn end_grace(b: &mut [u8], k: u16, on: bool)
+fn end_grace(b: &mut [u8], k: u16, old: Option<Grace>)
     requires { IsBoard b.old }
-    ensures { Holds b.new (with_graces (board_in b.old) (grace_ended (board_in b.old).table.graces k on)) }
+    ensures { Holds b.new (with_graces (board_in b.old) (grace_ended (board_in b.old).table.graces k (is_some old))) }
 {
-    if on {
+    if let Some(_) = old {
         remove_grace(b, k);
     }
 }
 
 // The tag k put in a tier, with a grace or none.
-pub fn put(b: &mut [u8], k: u16, tier: u8, g: Grace)
+pub fn put(b: &mut [u8], k: u16, tier: u8, g: Option<Grace>)
     requires { IsBoard b.old }
     ensures { Holds b.new (with_table (board_in b.old) (put_table (board_in b.old).table k tier g)) }
 {
     let at = k as usize;
-    let bit = is_bit(b, at);
     let old = tier_of(b, at);
     let grace = grace_of(b, at);
     let added = added_set(old, added_of(b, at), tier);
-    let wants = wants_set(old, wants_of(b, at), bit, tier);
+    let wants = wants_set(old, wants_of(b, at), is_bit(b, at), tier);
     put_standing(b, at, tier, g, added, wants);
     forget_for(b, at, tier);
     order_set(b, k, old, tier);
-    end_grace(b, k, grace.on);
+    end_grace(b, k, grace);
 }
 
 // The tag k put in a tier at once; 0 is none.
@@ -85,6 +78,5 @@ pub fn set(b: &mut [u8], k: u16, tier: u8)
     requires { IsBoard b.old }
     ensures { Holds b.new (with_table (board_in b.old) (set_table (board_in b.old).table k tier)) }
 {
-    let g = Grace::none();
-    put(b, k, tier, g);
+    put(b, k, tier, None);
 }

@@ -1,6 +1,6 @@
 -- Tier calls, loads, writes, stops, looks and creation.
 use mathlib.Core.Path.{◌≡◌, refl, ap, sym, ◌∙◌}
-use mathlib.Core.Bool.{Bool, true, false, not, cond, ◌||◌, ◌&&◌, true≢false}
+use mathlib.Core.Bool.{Bool, true, false, not, cond, ◌||◌, ◌&&◌}
 use mathlib.Core.List.{List, [], ◌∷◌}
 use Prim.Native.Nat.{ℕ, ◌+◌, ◌*◌, ◌≤◌, ◌<◌}
 use native.Mathlib.Omega.{arith}
@@ -14,11 +14,12 @@ use Rattle.lists.specs.Keep.{Below}
 use Rattle.lists.proofs.KeepLaws.{below_more}
 use Rattle.ieee.specs.Round.{slices_of}
 use Rattle.ieee.specs.Times.{clock_ok}
-use Rattle.ieee.proofs.Order.{yes, no, le_trans_float, not-lt→le}
+use Rattle.ieee.proofs.Order.{yes, no, not-lt→le}
 use Rattle.ieee.proofs.Finite.{clock_finite}
 use Rattle.names.specs.Directory.{names_of, directory_check, max_names, max_name_length}
 use Rattle.names.proofs.DirectoryLaws.{length_names, Checked, checked}
 use Rattle.ranks.specs.Ranks.{words_of}
+use Rattle.turns.proofs.TickLaws.{past_later}
 use Rattle.words.specs.Value.{value_from}
 use Rattle.table.specs.Tag.{fresh_tag}
 use Rattle.table.specs.declared.tag.Tag.{Tag}
@@ -76,7 +77,7 @@ module _ (o : Options) (ns : List (List ℕ)) (W : Worker) (s : Sound o ns W) wh
           let fine = clock_finite clock (yes p) in
           let later : Clock.T (le W.head.clock clock)
           = not-lt→le clock W.head.clock (finite_number clock fine) (finite_number W.head.clock s.clock_fine) (no q) in
-          (fine, λ z. ((s.last_past z).0, le_trans_float W.head.cycle.last W.head.clock clock (s.last_past z).1 later))
+          (fine, past_later W.head.clock clock later W.head.cycle.last s.last_past)
 
   -- an accepted tier call names a tag of the directory
   pub tier_inside : (clock : Float) (tag to : ℕ) → tier_check W clock tag to ≡ 0 → tag < W.head.count
@@ -216,7 +217,7 @@ sound_fresh s e =
       keys_same = refl;
       rated = rated_taken (length s.ends) s.settings (settings_good s e) false words rows;
       clock_fine = unfold of_bits in tt;
-      last_past = λ z. absurd (true≢false (sym z));
+      last_past = tt;
     }
 
 -- ---- every call

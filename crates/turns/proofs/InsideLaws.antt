@@ -8,6 +8,7 @@ use borrow.Author.Tests.{leb-false}
 use lib.Dec.{eqb, ltb, leb}
 use lib.Ieee.{Float, le, add, binary64}
 use lib.ListN.{length}
+use Rattle.std.specs.Prelude.{Option, Some, is_some}
 use Rattle.lists.specs.Keep.{Below}
 use Rattle.lists.proofs.KeepLaws.{below-append, below-keep}
 use Rattle.tags.specs.Lists.{pushed, member}
@@ -15,7 +16,7 @@ use Rattle.table.specs.Tag.{f0, no_grace}
 use Rattle.table.specs.declared.tag.Grace.{Grace}
 use Rattle.tiers.specs.Tiers.{order_set, grace_ended, put_table, set_table, grace_until, enter_grace, change_grace, set_tier}
 use Rattle.board.specs.Board.{Table, tag_at}
-use Rattle.rounds.specs.Graces.{has_run_out, expired_at, run_out}
+use Rattle.rounds.specs.Graces.{has_run_out, expired_at, run_out, after_of}
 use Rattle.panel.specs.Panel.{loaded, entry_check, bad_tier}
 
 pub record Inside (n : ℕ) (T : Table) : Type 0 where
@@ -38,22 +39,22 @@ either P false x y p q = q
 
 module _ (n : ℕ) (T : Table) (i : Inside n T) (k : ℕ) (h : k < n) where
   -- a tag put in a tier
-  inside_put : (tier : ℕ) (g : Grace) → Inside n (put_table T k tier g)
+  inside_put : (tier : ℕ) (g : Option Grace) → Inside n (put_table T k tier g)
   unfolding put_table order_set grace_ended
   inside_put tier g = record {
     order_inside =
         below-cond n (eqb (tag_at T k).tier 0) _ _
         (below-cond n (eqb tier 0) _ _ i.order_inside (below-pushed n T.room k T.order i.order_inside h))
         (below-cond n (eqb tier 0) _ _ (below-keep n (λ (x : ℕ). not (eqb k x)) T.order i.order_inside) i.order_inside);
-    graces_inside = below-cond n (tag_at T k).grace.on _ _ (below-keep n (λ (x : ℕ). not (eqb k x)) T.graces i.graces_inside) i.graces_inside;
+    graces_inside = below-cond n (is_some (tag_at T k).grace) _ _ (below-keep n (λ (x : ℕ). not (eqb k x)) T.graces i.graces_inside) i.graces_inside;
   }
 
   -- a tag that enters a grace
   inside_enter : (deadline : Float) (after : ℕ) → Inside n (enter_grace T k deadline after)
   unfolding enter_grace put_table
   inside_enter deadline after =
-      let m = inside_put 2 (grace_until deadline after) in
-      record { order_inside = m.order_inside; graces_inside = below-pushed n T.room k (put_table T k 2 (grace_until deadline after)).graces m.graces_inside h }
+      let m = inside_put 2 (Some (grace_until deadline after)) in
+      record { order_inside = m.order_inside; graces_inside = below-pushed n T.room k (put_table T k 2 (Some (grace_until deadline after))).graces m.graces_inside h }
 
   -- a grace that changes
   inside_change : (after : ℕ) → Inside n (change_grace T k after)
@@ -72,13 +73,13 @@ module _ (n : ℕ) (T : Table) (i : Inside n T) (k : ℕ) (h : k < n) where
       (either (Inside n) (eqb tier 2) _ _ now
       (either (Inside n) (le grace f0) _ _ now
       (either (Inside n) (eqb (tag_at T k).tier 1) _ _ (inside_enter (add binary64 clock grace) tier)
-      (either (Inside n) (tag_at T k).grace.on _ _ (inside_change tier) now))))
+      (either (Inside n) (is_some (tag_at T k).grace) _ _ (inside_change tier) now))))
 
 -- graces that run out
 pub inside_run_out : (n : ℕ) (T : Table) (ks : List ℕ) → Inside n T → Below n ks → Inside n (run_out T ks)
 unfolding run_out
 inside_run_out n T [] i b = i
-inside_run_out n T (k ∷ ks) i b = inside_run_out n (set_table T k (tag_at T k).grace.after) ks (inside_set n T i k b.0 (tag_at T k).grace.after) b.1
+inside_run_out n T (k ∷ ks) i b = inside_run_out n (set_table T k (after_of (tag_at T k).grace)) ks (inside_set n T i k b.0 (after_of (tag_at T k).grace)) b.1
 
 -- the graces that have run out are among the graces
 pub expired_inside : (n : ℕ) (T : Table) → Inside n T → (boundary : Bool) (clock : Float) → Below n (expired_at boundary T.tags T.graces clock)

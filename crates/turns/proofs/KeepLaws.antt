@@ -8,6 +8,7 @@ use lib.Dec.{eqb}
 use lib.Ieee.{Float}
 use lib.IntN.{ℤ}
 use lib.ListN.{get_or, set}
+use Rattle.std.specs.Prelude.{Option}
 use Rattle.values.specs.declared.entry.TagResult.{TagResult}
 use Rattle.table.specs.Tag.{fresh_tag}
 use Rattle.table.specs.Table.{with_description}
@@ -19,7 +20,6 @@ use Rattle.readings.specs.Listed.{Applying, apply_next, apply_from}
 use Rattle.descriptions.specs.Descriptions.{known_from}
 use Rattle.heads.specs.Version.{is_changed}
 use Rattle.versions.specs.Versions.{tag_taken, taken_at, each_at, table_taken, version_table, takes_settings}
-use Rattle.heads.specs.declared.version.Version.{Version}
 use Rattle.heads.specs.declared.cycle.Cycle.{Cycle}
 use Rattle.turns.proofs.TierLaws.{tiers, set-kept, tier_of, place_of, places, places_tiers, places_settings}
 use Rattle.turns.proofs.TickLaws.{Rated}
@@ -139,7 +139,7 @@ unfolding tag_taken
 taken_tiers changed settings words tags = each_tiers (taken_at changed settings words) (λ i x. refl) 0 tags
 
 -- a version answer
-pub version_tiers : (old new : Version) (connecting : Bool) (settings words : List ℕ) (tags : List Tag) → tiers (version_table old new connecting settings words tags) ≡ tiers tags
+pub version_tiers : (old new : Option ℕ) (connecting : Bool) (settings words : List ℕ) (tags : List Tag) → tiers (version_table old new connecting settings words tags) ≡ tiers tags
 unfolding version_table
 version_tiers old new connecting settings words tags =
     cond_tags tier_of (takes_settings (is_changed old new) connecting) (table_taken (is_changed old new) settings words tags) tags tags (taken_tiers (is_changed old new) settings words tags) refl

@@ -10,6 +10,7 @@ use lib.Ieee.Fits.{and_l, and_r}
 use lib.Ieee.Scale.{finite}
 use lib.ListN.{length}
 use mir.Facts.{or_yes}
+use Rattle.std.specs.Prelude.{Option, Some, None}
 use Rattle.ieee.specs.Round.{float}
 use Rattle.ieee.proofs.Order.{yes}
 use Rattle.table.specs.declared.tag.Tag.{Tag}
@@ -17,8 +18,6 @@ use Rattle.lent.specs.Lent.{tag_bytes}
 use Rattle.heads.specs.Options.{cycle_ok}
 use Rattle.rounds.specs.Round.{round as worked_round}
 use Rattle.queue.specs.Queue.{popped}
-use Rattle.queue.specs.declared.Popped.{Popped}
-use Rattle.queue.specs.declared.Popped.TheVariants.{Nothing, Is}
 use Rattle.heads.specs.Stats.{read_stats}
 use Rattle.heads.specs.declared.progress.Phase.TheVariants.{Read, Version}
 use Rattle.heads.specs.declared.progress.After.{After}
@@ -45,7 +44,8 @@ use Rattle.turns.proofs.StillLaws.{still_handled}
 use Rattle.turns.proofs.StepLaws.{Accepted, accepted-step}
 use Rattle.turns.proofs.SoundLaws.{Sound, sound_kept, sound_clocked}
 use Rattle.turns.proofs.CallLaws.{cycle_good, each_call}
-use Rattle.turns.proofs.TickLaws.{ms, Rated, self_zero, tick_low, tick_high, not_negative, waits, boundary_zero}
+use Rattle.turns.proofs.TickLaws.{ms, Rated, self_zero, tick_low, tick_high, not_negative, waits, boundary_zero, Past}
+use Rattle.queue.specs.declared.Write.{Write}
 
 -- either of two
 told_if : (b : Bool) (x y : Told) → goes_on x ≡ false → goes_on y ≡ false → goes_on (cond b x y) ≡ false
@@ -62,9 +62,9 @@ module _ (at : At) (f : T (finite at.clock)) where
   unfolding writing_of
   writing-told W a h = go (popped W.board.queue)
     where
-      go : (p : Popped) → goes_on (writing_of W at a p) ≡ false
-      go Nothing = h
-      go (Is w) = refl
+      go : (p : Option Write) → goes_on (writing_of W at a p) ≡ false
+      go None = h
+      go (Some w) = refl
 
   -- a round that has just begun, no boundary, with a tick of 0.001 s or more, is waited for
   tail-told : (W : Worker) → W.head.progress.start ≡ at.clock → T (le ms W.head.progress.tick) → T (le W.head.progress.tick (float 3600)) → goes_on (tail W at) ≡ false
@@ -98,7 +98,7 @@ module _ (at : At) (f : T (finite at.clock)) where
 
   -- An engine with an accepted cycle and rates of 1 ms or more, whose last boundary is not ahead of the clock.
   module _ (W : Worker) (c : cycle_ok W.head.options.cycle ≡ true) (r : Rated W.board.table.tags)
-      (last : W.head.cycle.begun ≡ true → T (finite W.head.cycle.last) × T (le W.head.cycle.last at.clock)) where
+      (last : Past at.clock W.head.cycle.last) where
     begun_worked : Begun (with_worked W at (round_at W at))
     unfolding worked_round
     begun_worked = record {

@@ -1,15 +1,17 @@
 -- Check 14: every rate of an engine is 1 ms or more.
 use mathlib.Core.Path.{◌≡◌, refl, ap, sym, ◌∙◌}
-use mathlib.Core.Bool.{Bool, true, false, not, ◌&&◌, ◌||◌, cond, true≢false}
+use mathlib.Core.Bool.{Bool, true, false, ◌&&◌, ◌||◌, cond, true≢false}
 use mathlib.Core.List.{List, [], ◌∷◌, map}
-use Prim.Native.Nat.{ℕ, zero, suc, ◌%◌, ◌*◌}
+use Prim.Native.Nat.{ℕ, zero, suc, ◌%◌, ◌*◌, ◌-◌}
 use native.Mathlib.Omega.{arith}
-use lib.Dec.{eqb, ltb, leb}
+use lib.Dec.{eqb, leb}
 use lib.Ieee.{Float, binary64, of_bits, add, le}
 use lib.Ieee.Scale.{finite}
 use lib.ListN.{length, get_or}
 use borrow.Author.Tests.{ne_eqb, eqb-false, not-true, lt-ltb}
+use Rattle.std.specs.Prelude.{Option, Some, is_some}
 use Rattle.memory.proofs.RowLaws.{map_at}
+use Rattle.table.specs.Row.{group_from}
 use Rattle.table.specs.Tag.{f0, fresh_tag, no_settings, no_grace}
 use Rattle.table.specs.declared.tag.Grace.{Grace}
 use Rattle.table.specs.declared.tag.Settings.{Settings}
@@ -21,9 +23,8 @@ use Rattle.board.specs.Board.{Table, tag_at}
 use Rattle.panel.specs.Panel.{loaded}
 use Rattle.heads.specs.Version.{is_changed}
 use Rattle.versions.specs.Versions.{tag_taken, taken_at, each_at, table_taken, version_table, takes_settings}
-use Rattle.heads.specs.declared.version.Version.{Version}
 use Rattle.turns.proofs.TierLaws.{settings_of, set-kept}
-use Rattle.turns.proofs.TickLaws.{is_rated, Rated}
+use Rattle.turns.proofs.TickLaws.{is_rated, Rated, is_rated_group}
 
 -- the same settings have the same rates
 pub rated_same : (a b : List Tag) → map settings_of a ≡ map settings_of b → Rated b → Rated a
@@ -36,14 +37,14 @@ rated_same a b e r k =
 
 module _ (T : Table) (k : ℕ) where
   -- a tag put in a tier
-  put_settings : (tier : ℕ) (g : Grace) → map settings_of (put_table T k tier g).tags ≡ map settings_of T.tags
+  put_settings : (tier : ℕ) (g : Option Grace) → map settings_of (put_table T k tier g).tags ≡ map settings_of T.tags
   unfolding put_table tag_set
   put_settings tier g = set-kept settings_of T.tags k _ refl
 
   -- a tag that enters a grace
   enter_settings : (deadline : Float) (after : ℕ) → map settings_of (enter_grace T k deadline after).tags ≡ map settings_of T.tags
   unfolding enter_grace
-  enter_settings deadline after = put_settings 2 (grace_until deadline after)
+  enter_settings deadline after = put_settings 2 (Some (grace_until deadline after))
 
   -- either of two tables
   either : (b : Bool) (x y : Table) → map settings_of x.tags ≡ map settings_of T.tags → map settings_of y.tags ≡ map settings_of T.tags
@@ -60,7 +61,7 @@ module _ (T : Table) (k : ℕ) where
       (either (eqb tier 2) _ _ now
       (either (le grace f0) _ _ now
       (either (eqb (tag_at T k).tier 1) _ _ (enter_settings (add binary64 clock grace) tier)
-      (either (tag_at T k).grace.on _ _ (set-kept settings_of T.tags k _ refl) now))))
+      (either (is_some (tag_at T k).grace) _ _ (set-kept settings_of T.tags k _ refl) now))))
 
 -- so does a load
 pub load_settings : (T : Table) (ks ts : List ℕ) (grace clock : Float) → map settings_of (loaded T ks ts grace clock).tags ≡ map settings_of T.tags
@@ -80,16 +81,16 @@ both false b e = absurd (true≢false (sym e))
 -- a setting
 rated_setting : (ws : List ℕ) → setting_ok ws ≡ true → is_rated (setting_from ws) ≡ true
 unfolding setting_ok setting_from
-rated_setting ws e = go (get_or ws 1 0) (get_or ws 2 0) (both (finite (of_bits binary64 (get_or ws 0 0))) _ e).1
+rated_setting ws e = go (get_or ws 1 0) (get_or ws 2 0) (get_or ws 1 0 - 1) (both (finite (of_bits binary64 (get_or ws 0 0))) _ e).1
   where
-    go : (g r : ℕ) → (eqb g 0 || (leb g max_groups && rate_ok r)) ≡ true → (not (ltb 0 g) || ltb 0 (r % 0x1_0000_0000)) ≡ true
-    go zero r h = refl
-    go (suc g) r h =
+    go : (g r k : ℕ) → (eqb g 0 || (leb g max_groups && rate_ok r)) ≡ true → is_rated_group (group_from g k r) ≡ true
+    go zero r k h = refl
+    go (suc g) r k h =
         let n : eqb (suc g) 0 ≡ false = ne_eqb (suc g) 0 (λ q. omega arith) in
         let u : (leb (suc g) max_groups && rate_ok r) ≡ true = rw n at h in
         let v = (both (leb (suc g) max_groups) (rate_ok r) u).1 in
         let p : (r % 0x1_0000_0000 ≡ 0 → ⊥) = eqb-false (r % 0x1_0000_0000) 0 (not-true (eqb (r % 0x1_0000_0000) 0) v) in
-        rw (lt-ltb 0 (suc g) (omega arith), lt-ltb 0 (r % 0x1_0000_0000) (omega (arith, p))) refl
+        rw (n, lt-ltb 0 (r % 0x1_0000_0000) (omega (arith, p))) refl
 
 -- all settings of a list
 rated_records : (rs : List (List ℕ)) → every setting_ok rs ≡ true → (i : ℕ) → is_rated (get_or (map setting_from rs) i no_settings) ≡ true
@@ -113,7 +114,7 @@ rated_taken n settings e changed words tags =
     rated_each (taken_at changed settings words) (λ i x. rated_records (records_in 4 settings) good i) 0 tags
 
 -- a version answer with such settings
-pub rated_version : (n : ℕ) (settings : List ℕ) → settings_ok n settings ≡ true → (old new : Version) (connecting : Bool) (words : List ℕ) (tags : List Tag) → Rated tags
+pub rated_version : (n : ℕ) (settings : List ℕ) → settings_ok n settings ≡ true → (old new : Option ℕ) (connecting : Bool) (words : List ℕ) (tags : List Tag) → Rated tags
     → Rated (version_table old new connecting settings words tags)
 unfolding version_table
 rated_version n settings e old new connecting words tags r = go (takes_settings (is_changed old new) connecting)

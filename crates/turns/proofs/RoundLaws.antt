@@ -5,6 +5,7 @@ use mathlib.Core.List.{List, [], ◌∷◌, map}
 use Prim.Native.Nat.{ℕ}
 use lib.Ieee.{Float}
 use lib.ListN.{length, length-set, get_or, set}
+use Rattle.std.specs.Prelude.{Some}
 use Rattle.ieee.specs.Round.{slices_of}
 use Rattle.lists.specs.Keep.{Below}
 use Rattle.lists.specs.Slices.{slice, next}
@@ -16,7 +17,7 @@ use Rattle.board.specs.Board.{Table, tag_at}
 use Rattle.tiers.specs.Listed.{Listed}
 use Rattle.tiers.proofs.ListedLaws.{order_below}
 use Rattle.slices.specs.Slice.{tier2_tags, slice_taken, next_index}
-use Rattle.rounds.specs.Graces.{expired_at, run_out}
+use Rattle.rounds.specs.Graces.{expired_at, run_out, after_of}
 use Rattle.rounds.specs.Due.{marked}
 use Rattle.rounds.specs.Added.{settled}
 use Rattle.rounds.specs.Round.{Polling, Round, cycle_after, round}
@@ -31,7 +32,7 @@ use Rattle.turns.proofs.InsideLaws.{Inside, inside_run_out, expired_inside}
 run_out_long : (T : Table) (ks : List ℕ) → length (run_out T ks).tags ≡ length T.tags
 unfolding run_out put_table
 run_out_long T [] = refl
-run_out_long T (k ∷ ks) = run_out_long (set_table T k (tag_at T k).grace.after) ks ∙ length-set T.tags k _
+run_out_long T (k ∷ ks) = run_out_long (set_table T k (after_of (tag_at T k).grace)) ks ∙ length-set T.tags k _
 
 -- reading times keep the tiers
 tiers_marked : (tags : List Tag) (clock : Float) (ks : List ℕ) → tiers (marked tags clock ks) ≡ tiers tags
@@ -43,7 +44,7 @@ tiers_marked tags clock (k ∷ ks) = tiers_marked (set tags k (with_last (get_or
 settings_run_out : (T : Table) (ks : List ℕ) → map settings_of (run_out T ks).tags ≡ map settings_of T.tags
 unfolding run_out put_table tag_set
 settings_run_out T [] = refl
-settings_run_out T (k ∷ ks) = settings_run_out (set_table T k (tag_at T k).grace.after) ks ∙ set-kept settings_of T.tags k _ refl
+settings_run_out T (k ∷ ks) = settings_run_out (set_table T k (after_of (tag_at T k).grace)) ks ∙ set-kept settings_of T.tags k _ refl
 
 settings_marked : (tags : List Tag) (clock : Float) (ks : List ℕ) → map settings_of (marked tags clock ks) ≡ map settings_of tags
 unfolding marked
@@ -128,7 +129,7 @@ module _ (less : ℕ → ℕ → Bool) (o : Options) (P : Polling) (clock : Floa
   )
 
   -- the last boundary is that of before, or now
-  pub last_boundary : (Q : Cycle → Type 0) → Q P.cycle → ((i : ℕ) → Q (record { begun = true; last = clock; index = i })) → ((i : ℕ) → Q P.cycle → Q (record { begun = P.cycle.begun; last = P.cycle.last; index = i })) → Q R.after.cycle
+  pub last_boundary : (Q : Cycle → Type 0) → Q P.cycle → ((i : ℕ) → Q (record { last = Some clock; index = i })) → ((i : ℕ) → Q P.cycle → Q (record { last = P.cycle.last; index = i })) → Q R.after.cycle
   unfolding round
   last_boundary Q q now same = go R.boundary (next_index R.boundary S R.tier2 P.cycle.index)
     where

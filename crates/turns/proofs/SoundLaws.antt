@@ -12,7 +12,7 @@ use Rattle.lists.specs.Keep.{count}
 use Rattle.lists.specs.Slices.{slice, next}
 use Rattle.lists.specs.Sort.{by_keys}
 use Rattle.ieee.specs.Round.{slices_of}
-use Rattle.ieee.proofs.Order.{yes, no, le_trans_float, le_refl_float, not-lt→le}
+use Rattle.ieee.proofs.Order.{yes, no, le_refl_float, not-lt→le}
 use Rattle.ieee.proofs.Finite.{clock_finite}
 use Rattle.ranks.specs.Ranks.{keys_of}
 use Rattle.tiers.specs.Listed.{Listed, in_tier}
@@ -21,7 +21,7 @@ use Rattle.rounds.specs.Round.{Round, Polling, polling_of}
 use Rattle.heads.specs.declared.options.Options.{Options}
 use Rattle.heads.specs.declared.cycle.Cycle.{Cycle}
 use Rattle.turns.proofs.TierLaws.{tier_same, tags_long, tier2_same, tier2_once}
-use Rattle.turns.proofs.TickLaws.{Rated}
+use Rattle.turns.proofs.TickLaws.{Rated, Past, past_later}
 use Rattle.turns.proofs.RateLaws.{rated_same}
 use Rattle.turns.proofs.RoundLaws.{listed-round, round_long, round_settings, inside_round, tier2_left, none_ran_out, not_boundary, last_boundary, at_boundary}
 use Rattle.histories.specs.Events.{Event, quiet, retiered, took}
@@ -45,7 +45,7 @@ listed_of W = tier2_tags (by_keys W.board.keys) W.board.table.tags W.board.table
 
 -- the last boundary, if there was one, is not ahead of the clock
 abbrev pub LastPast : Float → Cycle → Type 0
-LastPast clock x = x.begun ≡ true → T (finite x.last) × T (le x.last clock)
+LastPast clock x = Past clock x.last
 
 -- What every engine meets that was made with the options o and the names ns: the table is listed, with room for its tags, and has no other tags than the
 -- directory, the sort keys are those of the names, rates are 1 ms or more, and the last boundary is not ahead of the clock.
@@ -141,7 +141,7 @@ module _ (o : Options) (ns : List (List ℕ)) (M : Worker) (at : At) (s : Sound 
         clock_fine = s.clock_fine;
         last_past =
             last_boundary less M.head.options P at.clock (LastPast M.head.clock) s.last_past
-            (λ i e. (fine, rw now (le_refl_float at.clock (finite_number at.clock fine)))) (λ i q. q);
+            (λ i. (fine, rw now (le_refl_float at.clock (finite_number at.clock fine)))) (λ i q. q);
       }
 
   -- the tier-2 tags that it leaves are those it went by
@@ -188,7 +188,7 @@ module _ (o : Options) (ns : List (List ℕ)) where
         keys_same = s.keys_same;
         rated = s.rated;
         clock_fine = fine;
-        last_past = λ e. ((s.last_past e).0, le_trans_float W.head.cycle.last W.head.clock at.clock (s.last_past e).1 later);
+        last_past = past_later W.head.clock at.clock later W.head.cycle.last s.last_past;
       }
 
   module _ (N : Worker) (at : At) (T : Told) (s : Sound o ns N) where

@@ -9,6 +9,7 @@ use lib.Dec.{eqb}
 use lib.Ieee.{Float, binary64, round as rounded, le}
 use lib.IntN.{ℤ}
 use lib.ListN.{length, take}
+use Rattle.std.specs.Prelude.{Option, Some, None}
 use Rattle.stale.specs.Stale.{tag_stale, staled_in}
 use Rattle.results.specs.Results.{result_count}
 use Rattle.descriptions.specs.Descriptions.{unwanted, found_in, found_count, learnt, learnt_none, describing}
@@ -18,8 +19,6 @@ use Rattle.settings.specs.Settings.{settings_ok}
 use Rattle.heads.specs.Version.{is_reloaded}
 use Rattle.versions.specs.Versions.{version_table}
 use Rattle.queue.specs.Queue.{popped}
-use Rattle.queue.specs.declared.Popped.{Popped}
-use Rattle.queue.specs.declared.Popped.TheVariants.{Nothing, Is}
 use Rattle.heads.specs.Link.{is_state, with_attempt}
 use Rattle.heads.specs.Stats.{read_stats, tail_stats, reconnected}
 use Rattle.heads.specs.declared.link.State.TheVariants.{Disconnected, Connecting, Connected}
@@ -40,6 +39,7 @@ use Rattle.step_answers.specs.Answers.{number_of, versioned, connected, reconnec
 use Rattle.worker.specs.Steps.{taken, handled}
 use Rattle.turns.proofs.RateLaws.{rated_version}
 use Rattle.turns.proofs.KeepLaws.{Keeps, keeps_all, keeps_tags, keeps_records, keeps_after, Still, still_tell, still_if, still_after, apply_places, known_places, version_tiers}
+use Rattle.queue.specs.declared.Write.{Write as Queued}
 
 -- ---- the end, and a connection that is lost
 
@@ -107,10 +107,10 @@ module _ (at : At) where
   still_resume W Idle = still_idle W
   still_resume W End = still_ended W
 
-  still_writing_of : (W : Worker) (a : After) (p : Popped) → Still W (writing_of W at a p)
+  still_writing_of : (W : Worker) (a : After) (p : Option Queued) → Still W (writing_of W at a p)
   unfolding writing_of
-  still_writing_of W a Nothing = still_resume W a
-  still_writing_of W a (Is w) = still_tell W _ _ _ (keeps_all W _ refl refl refl refl refl refl)
+  still_writing_of W a None = still_resume W a
+  still_writing_of W a (Some w) = still_tell W _ _ _ (keeps_all W _ refl refl refl refl refl refl)
 
   pub still_writing : (W : Worker) (a : After) → Still W (writing W at a)
   still_writing W a = still_writing_of W a (popped W.board.queue)

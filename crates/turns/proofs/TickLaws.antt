@@ -14,15 +14,17 @@ use lib.Ieee.Order.{round_mono}
 use lib.Ieee.Scale.{finite, round_same}
 use lib.ListN.{get_or}
 use borrow.Author.Tests.{le-ltb, ltb-true}
+use Rattle.std.specs.Prelude.{Option, Some, None}
 use Rattle.ieee.specs.Round.{float}
 use Rattle.ieee.specs.Times.{least, due_at, rate_seconds}
 use Rattle.ieee.proofs.Order.{yes, Le, le→, le_trans_float, lt→le}
 use Rattle.ieee.proofs.Sums.{add_order}
 use Rattle.ieee.proofs.Finite.{finite_between}
 use Rattle.table.specs.Tag.{fresh_tag}
+use Rattle.table.specs.declared.tag.GroupRate.{GroupRate}
 use Rattle.table.specs.declared.tag.Settings.{Settings}
 use Rattle.table.specs.declared.tag.Tag.{Tag}
-use Rattle.rounds.specs.Tick.{rate_of, least_rate, tick_of, boundary_at}
+use Rattle.rounds.specs.Tick.{rate_of, least_rate, tick_of, boundary_at, due_since, rate_of_group}
 use Rattle.heads.specs.declared.cycle.Cycle.{Cycle}
 
 -- 0.001 s, the least cycle but 0 and the least rate
@@ -72,11 +74,25 @@ refuted : (b : Bool) → (T b → ⊥) → b ≡ false
 refuted true f = absurd (f tt)
 refuted false f = refl
 
+-- a reading, if there was one, is finite and not ahead of the clock
+abbrev pub Past : Float → Option Float → Type 0
+Past clock None = Unit {0}
+Past clock (Some last) = T (finite last) × T (le last clock)
+
+-- nor then of a later one
+pub past_later : (a b : Float) → T (le a b) → (last : Option Float) → Past a last → Past b last
+past_later a b h None p = tt
+past_later a b h (Some last) p = (p.0, le_trans_float last a b p.1 h)
+
 -- ---- the tick
 
 -- a setting whose rate, if it has one, is 1 ms or more
+abbrev pub is_rated_group : Option GroupRate → Bool
+is_rated_group None = true
+is_rated_group (Some g) = ltb 0 g.rate
+
 abbrev pub is_rated : Settings → Bool
-is_rated s = not s.grouped || ltb 0 s.rate
+is_rated s = is_rated_group s.group
 
 -- every tag of a table has such a setting
 abbrev pub Rated : List Tag → Type 0
@@ -84,11 +100,11 @@ Rated tags = (k : ℕ) → is_rated (get_or tags k fresh_tag).settings ≡ true
 
 -- the rate of such a setting
 rate_low : (s : Settings) (cycle : Float) → is_rated s ≡ true → T (le ms cycle) → T (le ms (rate_of s cycle))
-rate_low s cycle r c = go s.grouped refl r
+rate_low s cycle r c = go s.group r
   where
-    go : (g : Bool) → s.grouped ≡ g → (not g || ltb 0 s.rate) ≡ true → T (le ms (cond g (rate_seconds s.rate) cycle))
-    go true q e = rate_least s.rate (ltb-true 0 s.rate e)
-    go false q e = c
+    go : (g : Option GroupRate) → is_rated_group g ≡ true → T (le ms (rate_of_group g cycle))
+    go None e = c
+    go (Some g) e = rate_least g.rate (ltb-true 0 g.rate e)
 
 module _ (tags : List Tag) (r : Rated tags) (cycle : Float) (c : T (le ms cycle)) where
   -- the lesser of two
@@ -255,19 +271,19 @@ module _ (c : Float) (z : T (eq c (float 0))) where
       s : Settings
       s = (get_or tags k fresh_tag).settings
 
-      not_less : (g : Bool) → (not g || ltb 0 s.rate) ≡ true → lt (cond g (rate_seconds s.rate) c) c ≡ false
-      not_less true e = not_below (rate_seconds s.rate) (rate_least s.rate (ltb-true 0 s.rate e))
-      not_less false e = not_below_self
+      not_less : (g : Option GroupRate) → is_rated_group g ≡ true → lt (rate_of_group g c) c ≡ false
+      not_less None e = not_below_self
+      not_less (Some g) e = not_below (rate_seconds g.rate) (rate_least g.rate (ltb-true 0 g.rate e))
 
       go : (b : Bool) → cond b (least c (rate_of s c)) c ≡ c
-      go true = rw (not_less s.grouped (r k)) refl
+      go true = rw (not_less s.group (r k)) refl
       go false = refl
 
   -- every round is a boundary
-  pub boundary_zero : (tags : List Tag) → Rated tags → (order : List ℕ) (x : Cycle) (clock : Float) → T (finite clock) → (x.begun ≡ true → T (finite x.last) × T (le x.last clock))
+  pub boundary_zero : (tags : List Tag) → Rated tags → (order : List ℕ) (x : Cycle) (clock : Float) → T (finite clock) → Past clock x.last
       → boundary_at x clock (div binary64 (tick_of tags order c) (float 2)) c ≡ true
-  boundary_zero tags r order x clock f h = ap (λ (t : Float). boundary_at x clock (div binary64 t (float 2)) c) (tick_zero tags r order) ∙ go x.begun refl
+  boundary_zero tags r order x clock f h = ap (λ (t : Float). boundary_at x clock (div binary64 t (float 2)) c) (tick_zero tags r order) ∙ go x.last h
     where
-      go : (b : Bool) → x.begun ≡ b → (not b || due_at clock half x.last c) ≡ true
-      go true e = met (due_at clock half x.last c) (add_order binary64 x.last clock c half (h e).0 f zero_finite half_finite (h e).1 half_high)
-      go false e = refl
+      go : (l : Option Float) → Past clock l → due_since l clock half c ≡ true
+      go None p = refl
+      go (Some last) p = met (due_at clock half last c) (add_order binary64 last clock c half p.0 f zero_finite half_finite p.1 half_high)

@@ -8,6 +8,7 @@ use lib.Dec.{eqb}
 use lib.Ieee.{Float, binary64, round as rounded, le}
 use lib.IntN.{ℤ}
 use lib.ListN.{length, get_or, set, take, length-map, length-take, length-drop}
+use Rattle.std.specs.Prelude.{Option, Some, None}
 use Rattle.lists.specs.Keep.{keep}
 use Rattle.lists.specs.Sort.{by_keys}
 use Rattle.lent.specs.Changes.{change_cells, change_size}
@@ -30,13 +31,10 @@ use Rattle.descriptions.specs.Descriptions.{is_asked, asked_tags, unwanted, know
 use Rattle.settings.specs.Settings.{settings_ok}
 use Rattle.heads.specs.Version.{is_changed, is_reloaded}
 use Rattle.versions.specs.Versions.{tag_taken, taken_at, each_at, table_taken, version_table, takes_settings}
-use Rattle.heads.specs.declared.version.Version.{Version}
 use Rattle.queue.specs.Queue.{popped, rest}
 use Rattle.writes.specs.Failing.{queued_tags}
 use Rattle.writes.specs.ReadBack.{read_back_tags, kept_back}
-use Rattle.queue.specs.declared.Write.{Write}
-use Rattle.queue.specs.declared.Popped.{Popped}
-use Rattle.queue.specs.declared.Popped.TheVariants.{Nothing, Is}
+use Rattle.queue.specs.declared.Write.{Write as Queued, Write}
 use Rattle.rounds.specs.Round.{Round, Polling, polling_of}
 use Rattle.heads.specs.declared.options.Options.{Options}
 use Rattle.heads.specs.Link.{is_state, with_attempt}
@@ -91,7 +89,7 @@ module _ {A : Type 0} (g : Tag → A) where
   each_kept f h i (x ∷ l) = rw (h i x, each_kept f h (suc i) l)
 
 -- a version answer keeps graces
-version-graces : (old new : Version) (connecting : Bool) (settings words : List ℕ) (tags : List Tag) → map is_graced (version_table old new connecting settings words tags) ≡ map is_graced tags
+version-graces : (old new : Option ℕ) (connecting : Bool) (settings words : List ℕ) (tags : List Tag) → map is_graced (version_table old new connecting settings words tags) ≡ map is_graced tags
 unfolding version_table tag_taken
 version-graces old new connecting settings words tags =
     cond-kept is_graced (takes_settings (is_changed old new) connecting) (table_taken (is_changed old new) settings words tags) tags tags
@@ -266,10 +264,10 @@ module _ (rows n : ℕ) where
     alike_resume W f Idle = alike_idle W f
     alike_resume W f End = alike_ended W f
 
-    alike_writing_of : (W : Worker) → Fits rows W.board → (a : After) (p : Popped) → Alike (writing_of W at a p) (writing_of (roomed n W) at a p)
+    alike_writing_of : (W : Worker) → Fits rows W.board → (a : After) (p : Option Queued) → Alike (writing_of W at a p) (writing_of (roomed n W) at a p)
     unfolding writing_of
-    alike_writing_of W f a Nothing = alike_resume W f a
-    alike_writing_of W f a (Is w) =
+    alike_writing_of W f a None = alike_resume W f a
+    alike_writing_of W f a (Some w) =
         alike_tell _ _ [] (fits_queue rows W.board f (rest W.board.queue) (omega (arith, length-drop 1 W.board.queue, f.queue_few))) (omega arith)
 
     alike_writing : (W : Worker) → Fits rows W.board → (a : After) → Alike (writing W at a) (writing (roomed n W) at a)

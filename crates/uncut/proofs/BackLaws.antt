@@ -9,6 +9,7 @@ use lib.Dec.{eqb, ltb}
 use lib.Ieee.{binary64, round as rounded, le}
 use lib.ListN.{length, get_or, take, length-take, length-replicate}
 use borrow.Author.Tests.{lt-ltb}
+use Rattle.std.specs.Prelude.{Option, Some, None}
 use Rattle.memory.specs.Blocks.{byte_at}
 use Rattle.memory.specs.Cells.{cells_in, word_at}
 use Rattle.memory.proofs.CellLaws.{cells_at}
@@ -20,8 +21,6 @@ use Rattle.results.specs.Results.{result_count, result_in}
 use Rattle.heads.specs.Version.{is_reloaded}
 use Rattle.queue.specs.Queue.{popped}
 use Rattle.writes.specs.ReadBack.{read_back_tags, read_back_first, kept_back}
-use Rattle.queue.specs.declared.Popped.{Popped}
-use Rattle.queue.specs.declared.Popped.TheVariants.{Nothing, Is}
 use Rattle.heads.specs.Link.{is_state}
 use Rattle.heads.specs.Progress.{phase_number}
 use Rattle.heads.specs.Stats.{tail_stats, read_stats, reconnected}
@@ -51,6 +50,7 @@ use Rattle.turns.specs.Calls.{Call, tier, load, steps, write, stop, look, after}
 use Rattle.turns.specs.Demand.{moment}
 use Rattle.turns.proofs.StepLaws.{step_cases}
 use Rattle.uncut.specs.Backs.{BackWhole, BacksWhole}
+use Rattle.queue.specs.declared.Write.{Write as Queued}
 
 -- whether an engine waits for a read-back
 abbrev waits_back : Worker → Bool
@@ -120,10 +120,10 @@ module _ (at : At) where
   apart_resume W Idle = apart_idle W
   apart_resume W End = apart_ended W
 
-  apart_writing_of : (W : Worker) (a : After) (p : Popped) → Apart W (writing_of W at a p)
+  apart_writing_of : (W : Worker) (a : After) (p : Option Queued) → Apart W (writing_of W at a p)
   unfolding writing_of
-  apart_writing_of W a Nothing = apart_resume W a
-  apart_writing_of W a (Is w) = record { away = λ w. refl; long = refl }
+  apart_writing_of W a None = apart_resume W a
+  apart_writing_of W a (Some w) = record { away = λ w. refl; long = refl }
 
   apart_writing : (W : Worker) (a : After) → Apart W (writing W at a)
   apart_writing W a = apart_writing_of W a (popped W.board.queue)

@@ -9,11 +9,13 @@ use lib.Ieee.{Float, binary64, of_bits}
 use lib.Ieee.Scale.{finite}
 use lib.ListN.{length, get_or, set, take, length-map}
 use lib.Seq.{take_all}
-use borrow.Author.Tests.{eqb-true, ne_eqb, leb-true}
+use borrow.Author.Tests.{eqb-true, ne_eqb, leb-true, le-ltb}
+use Rattle.std.specs.Prelude.{Option, is_some, Some, None}
 use Rattle.lists.specs.Keep.{keep, count, Below}
 use Rattle.lists.proofs.KeepLaws.{count-append, length-keep, length-up_to, below-append}
 use Rattle.lists.proofs.CountLaws.{length_fewer}
 use Rattle.memory.proofs.RowLaws.{map_at}
+use Rattle.table.specs.Row.{group_from}
 use Rattle.tags.specs.Lists.{pushed, member}
 use Rattle.tags.proofs.ListLaws.{pushed_more}
 use Rattle.table.specs.Tag.{fresh_tag, no_settings}
@@ -22,16 +24,17 @@ use Rattle.table.specs.declared.tag.Tag.{Tag}
 use Rattle.tiers.specs.Graced.{Graced}
 use Rattle.groups.specs.Groups.{Groups, noted}
 use Rattle.table.specs.Table.{by_rank}
-use Rattle.rounds.specs.Due.{recorded_due}
+use Rattle.rounds.specs.Due.{recorded_due, noted_due, seen_with}
 use Rattle.settings.specs.Records.{records_in, every}
 use Rattle.settings.specs.Settings.{setting_from, setting_in, setting_ok, settings_ok, rate_ok, max_groups}
-use Rattle.settings.specs.declared.configured.Configured.{Configured}
+use Rattle.table.specs.declared.tag.GroupRate.{GroupRate}
 use Rattle.heads.specs.Version.{is_changed}
 use Rattle.versions.specs.Versions.{tag_taken, taken_at, each_at, table_taken, version_table, takes_settings}
-use Rattle.heads.specs.declared.version.Version.{Version}
 use Rattle.board.specs.Board.{Board, Table, tag_at, with_tags}
 use Rattle.writes.specs.ReadBack.{read_back_tags}
 use Rattle.checks.specs.Calls.{max_writes}
+use Rattle.queue.specs.Queue.{queued_with}
+use Rattle.queue.specs.declared.Write.{Write}
 use Rattle.uncut.specs.Uncut.{groups_roomed}
 use Rattle.turns.proofs.TierLaws.{settings_of}
 use Rattle.turns.proofs.RateLaws.{both}
@@ -45,15 +48,24 @@ cut_same n m l p q = take_all n l p ∙ sym (take_all m l q)
 pub pushed_same : (n m : ℕ) (l : List ℕ) (k : ℕ) → length l < n → length l < m → pushed n l k ≡ pushed m l k
 pushed_same n m l k p q = pushed_more n l k p ∙ sym (pushed_more m l k q)
 
+-- Rule 8: a full queue keeps what it has; check 32 comes first, so that none is asked to
+pub queued_full : (n : ℕ) (ws : List Write) (w : Write) → n ≤ length ws → queued_with n ws w ≡ ws
+queued_full n ws w h = rw (le-ltb (length ws) n h)
+
 -- no more tags pass a test than there are
 pub ranks_few : (p : ℕ → Bool) (tags : List Tag) → length (keep p (by_rank tags)) ≤ length tags
 ranks_few p tags = omega (arith, length-keep p (by_rank tags), length-up_to (min (length tags) 65536))
 
 -- ---- the numbers of groups
 
--- the group of every tag is 0 to 15
+-- a group, if there is one, is 0 to 15
+abbrev pub InRange : Option GroupRate → Type 0
+InRange None = Unit {0}
+InRange (Some g) = g.number < max_groups
+
+-- the group of every tag is
 abbrev pub Numbered : List Tag → Type 0
-Numbered tags = (k : ℕ) → (get_or tags k fresh_tag).settings.group < max_groups
+Numbered tags = (k : ℕ) → InRange (get_or tags k fresh_tag).settings.group
 
 -- the same settings have the same groups
 pub numbered_same : (a b : List Tag) → map settings_of a ≡ map settings_of b → Numbered b → Numbered a
@@ -63,27 +75,27 @@ numbered_same a b e r k =
     rw s (r k)
 
 -- Check 14: a setting
-numbered_setting : (ws : List ℕ) → setting_ok ws ≡ true → (setting_from ws).group < max_groups
+numbered_setting : (ws : List ℕ) → setting_ok ws ≡ true → InRange (setting_from ws).group
 unfolding setting_ok setting_from
 numbered_setting ws e = go (get_or ws 1 0) (get_or ws 2 0) (both (finite (of_bits binary64 (get_or ws 0 0))) _ e).1
   where
-    go : (g r : ℕ) → (eqb g 0 || (leb g max_groups && rate_ok r)) ≡ true → (g - 1) % 256 < max_groups
-    go zero r h = omega arith
+    go : (g r : ℕ) → (eqb g 0 || (leb g max_groups && rate_ok r)) ≡ true → InRange (group_from g (g - 1) r)
+    go zero r h = tt
     go (suc g) r h =
         let z : eqb (suc g) 0 ≡ false = ne_eqb (suc g) 0 (λ q. omega arith) in
         let u : (leb (suc g) max_groups && rate_ok r) ≡ true = rw z at h in
-        omega (arith, leb-true (suc g) max_groups (both (leb (suc g) max_groups) (rate_ok r) u).0)
+        rw z (omega (arith, leb-true (suc g) max_groups (both (leb (suc g) max_groups) (rate_ok r) u).0))
 
 -- all settings of a list
-numbered_records : (rs : List (List ℕ)) → every setting_ok rs ≡ true → (i : ℕ) → (get_or (map setting_from rs) i no_settings).group < max_groups
+numbered_records : (rs : List (List ℕ)) → every setting_ok rs ≡ true → (i : ℕ) → InRange (get_or (map setting_from rs) i no_settings).group
 unfolding every
-numbered_records [] e i = omega arith
+numbered_records [] e i = tt
 numbered_records (ws ∷ rs) e zero = numbered_setting ws (both (setting_ok ws) (every setting_ok rs) e).0
 numbered_records (ws ∷ rs) e (suc i) = numbered_records rs (both (setting_ok ws) (every setting_ok rs) e).1 i
 
-numbered_each : (f : ℕ → Tag → Tag) → ((i : ℕ) (x : Tag) → (f i x).settings.group < max_groups) → (i : ℕ) (tags : List Tag) → Numbered (each_at f i tags)
+numbered_each : (f : ℕ → Tag → Tag) → ((i : ℕ) (x : Tag) → InRange (f i x).settings.group) → (i : ℕ) (tags : List Tag) → Numbered (each_at f i tags)
 unfolding each_at
-numbered_each f h i [] k = omega arith
+numbered_each f h i [] k = tt
 numbered_each f h i (x ∷ l) zero = h i x
 numbered_each f h i (x ∷ l) (suc k) = numbered_each f h (suc i) l k
 
@@ -95,7 +107,7 @@ numbered_taken n settings e changed words tags =
     numbered_each (taken_at changed settings words) (λ i x. numbered_records (records_in 4 settings) good i) 0 tags
 
 -- a version answer with such settings
-pub numbered_version : (n : ℕ) (settings : List ℕ) → settings_ok n settings ≡ true → (old new : Version) (connecting : Bool) (words : List ℕ) (tags : List Tag) → Numbered tags
+pub numbered_version : (n : ℕ) (settings : List ℕ) → settings_ok n settings ≡ true → (old new : Option ℕ) (connecting : Bool) (words : List ℕ) (tags : List Tag) → Numbered tags
     → Numbered (version_table old new connecting settings words tags)
 unfolding version_table
 numbered_version n settings e old new connecting words tags r = go (takes_settings (is_changed old new) connecting)
@@ -167,17 +179,17 @@ module _ (n : ℕ) where
   unfolding recorded_due
   due_fits tags r clock seen G f [] = record { fits = f; same = refl }
   due_fits tags r clock seen G f (k ∷ ks) =
-      let s = (get_or tags k fresh_tag).settings in
-      let first = not (get_or seen s.group false) in
-      let x = noted_fits G f s.group s.rate clock first (r k) in
-      either s.grouped _ _ _ _
-      (rw x.same (due_fits tags r clock (set seen s.group true) (noted G s.group s.rate clock first) x.fits ks))
-      (due_fits tags r clock seen G f ks)
+      let x = note (get_or tags k fresh_tag).settings.group (r k) in
+      rw x.same (due_fits tags r clock (seen_with seen (get_or tags k fresh_tag).settings.group) (noted_due G seen (get_or tags k fresh_tag).settings.group clock) x.fits ks)
+    where
+      note : (g : Option GroupRate) → InRange g → Noted (noted_due G seen g clock) (noted_due (groups_roomed n G) seen g clock)
+      note None h = record { fits = f; same = refl }
+      note (Some g) h = noted_fits G f g.number g.rate clock (not (get_or seen g.number false)) h
 
 -- ---- tables
 
 abbrev pub is_graced : Tag → Bool
-is_graced x = x.grace.on
+is_graced x = (is_some x.grace)
 
 -- A table of so many tags: its graces are those of its tags, the groups of its tags are 0 to 15, and a read-back is of no more tags than there are.
 pub record FitTable (rows : ℕ) (T : Table) : Type 0 where
@@ -195,7 +207,7 @@ fit_tags rows T tags e r f = record {
   backs = f.backs;
 }
   where
-    same : (k : ℕ) → (get_or tags k fresh_tag).grace.on ≡ (tag_at T k).grace.on
+    same : (k : ℕ) → (is_some (get_or tags k fresh_tag).grace) ≡ (is_some (tag_at T k).grace)
     same k = sym (map_at is_graced tags k fresh_tag) ∙ ap (λ (l : List Bool). get_or l k false) e ∙ map_at is_graced T.tags k fresh_tag
 
     long : length tags ≡ length T.tags
@@ -204,8 +216,8 @@ fit_tags rows T tags e r f = record {
 -- ---- boards
 
 -- the numbers of the groups configured
-abbrev pub numbers_of : List Configured → List ℕ
-numbers_of l = map (λ (x : Configured). x.number) l
+abbrev pub numbers_of : List GroupRate → List ℕ
+numbers_of l = map (λ (x : GroupRate). x.number) l
 
 -- A board for so many tags, one at least: no more are asked for, and no more writes wait than check 32 lets in.
 pub record Fits (rows : ℕ) (B : Board) : Type 0 where

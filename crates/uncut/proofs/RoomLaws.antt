@@ -9,6 +9,7 @@ use lib.Ieee.{Float, binary64, le, add, div}
 use lib.ListN.{length}
 use lib.Seq.{get_or-set_same}
 use borrow.Author.Tests.{eqb-true}
+use Rattle.std.specs.Prelude.{Option, is_some}
 use Rattle.ieee.specs.Round.{float, slices_of}
 use Rattle.lists.specs.Keep.{keep, count, Below}
 use Rattle.lists.proofs.CountLaws.{length_fewer}
@@ -27,7 +28,7 @@ use Rattle.panel.specs.Panel.{loaded}
 use Rattle.panel.proofs.LoadLaws.{long_tier}
 use Rattle.groups.specs.Groups.{Groups}
 use Rattle.slices.specs.Slice.{tier2_tags, slice_taken, next_index}
-use Rattle.rounds.specs.Graces.{run_out}
+use Rattle.rounds.specs.Graces.{run_out, after_of}
 use Rattle.rounds.specs.Due.{due_tags, marked, recorded_due, none_seen}
 use Rattle.rounds.specs.Added.{with_added_tags, settled}
 use Rattle.rounds.specs.Missing.{not_held_back}
@@ -68,7 +69,7 @@ module _ (n : ℕ) (T : Table) (l : Listed T) (k : ℕ) (h : k < length T.tags) 
           pushed_same (T.room + n) T.room T.order k (omega (arith, s, l.enough)) (omega (arith, s, l.enough))
       go false e b = refl
 
-  put_roomed : (tier : ℕ) (g : Grace) → put_table (table_roomed n T) k tier g ≡ table_roomed n (put_table T k tier g)
+  put_roomed : (tier : ℕ) (g : Option Grace) → put_table (table_roomed n T) k tier g ≡ table_roomed n (put_table T k tier g)
   unfolding put_table
   put_roomed tier g = rw (order-roomed tier)
 
@@ -77,7 +78,7 @@ module _ (n : ℕ) (T : Table) (l : Listed T) (k : ℕ) (h : k < length T.tags) 
 
   module _ (g : Graced T) where
     abbrev ended : List ℕ
-    ended = grace_ended T.graces k (tag_at T k).grace.on
+    ended = grace_ended T.graces k (is_some (tag_at T k).grace)
 
     -- a tag that enters a grace finds room
     ended_short : length ended < length T.tags
@@ -87,7 +88,7 @@ module _ (n : ℕ) (T : Table) (l : Listed T) (k : ℕ) (h : k < length T.tags) 
         let s = set_table T k 0 in
         let gs : Graced s = graced_set T g k h 0 in
         let long : length s.tags ≡ length T.tags = set_long T l k h 0 in
-        let off : count k ended ≡ 0 = gs.once k ∙ ap (λ (y : Tag). cond y.grace.on 1 0) (get_or-set_same T.tags k x fresh_tag h) in
+        let off : count k ended ≡ 0 = gs.once k ∙ ap (λ (y : Tag). cond (is_some y.grace) 1 0) (get_or-set_same T.tags k x fresh_tag h) in
         length_fewer (length T.tags) k ended (rw long at (graces-below s gs)) (graces_once s gs) h off
 
     enter_roomed : (deadline : Float) (after : ℕ) → enter_grace (table_roomed n T) k deadline after ≡ table_roomed n (enter_grace T k deadline after)
@@ -104,7 +105,7 @@ module _ (n : ℕ) (T : Table) (l : Listed T) (k : ℕ) (h : k < length T.tags) 
         (either n (eqb tier 2) _ _ _ _ now
         (either n (le grace f0) _ _ _ _ now
         (either n (eqb (tag_at T k).tier 1) _ _ _ _ (enter_roomed (add binary64 clock grace) tier)
-        (either n (tag_at T k).grace.on _ (change_grace (table_roomed n T) k tier) _ _ refl now))))
+        (either n (is_some (tag_at T k).grace) _ (change_grace (table_roomed n T) k tier) _ _ refl now))))
 
 -- a tier call keeps the words of bits
 either-words : (ws : List ℕ) (b : Bool) (x y : Table) → x.words ≡ ws → y.words ≡ ws → (cond b x y).words ≡ ws
@@ -119,13 +120,13 @@ tier_words T k tier grace clock =
     (either-words w (eqb tier 2) _ _ refl
     (either-words w (le grace f0) _ _ refl
     (either-words w (eqb (tag_at T k).tier 1) _ _ refl
-    (either-words w (tag_at T k).grace.on _ _ refl refl))))
+    (either-words w (is_some (tag_at T k).grace) _ _ refl refl))))
 
 -- so do graces that run out
 run_out_words : (T : Table) (ks : List ℕ) → (run_out T ks).words ≡ T.words
 unfolding run_out put_table
 run_out_words T [] = refl
-run_out_words T (k ∷ ks) = run_out_words (set_table T k (tag_at T k).grace.after) ks
+run_out_words T (k ∷ ks) = run_out_words (set_table T k (after_of (tag_at T k).grace)) ks
 
 -- a tier call keeps what fits
 pub fit_tier : (rows : ℕ) (T : Table) → Listed T → FitTable rows T → (k : ℕ) → k < length T.tags → (tier : ℕ) (grace clock : Float) → FitTable rows (set_tier T k tier grace clock)
@@ -152,7 +153,7 @@ run_out_roomed : (n : ℕ) (T : Table) → Listed T → (ks : List ℕ) → Belo
 unfolding run_out
 run_out_roomed n T l [] b = refl
 run_out_roomed n T l (k ∷ ks) b =
-    let after = (tag_at T k).grace.after in
+    let after = (after_of (tag_at T k).grace) in
     let long = set_long T l k b.0 after in
     ap (λ (Y : Table). run_out Y ks) (set-roomed n T l k b.0 after)
     ∙ run_out_roomed n (set_table T k after) (listed-set T l k after b.0) ks (rw long b.1)

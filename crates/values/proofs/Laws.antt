@@ -8,12 +8,12 @@ use lib.Dec.{eqb}
 use lib.IntN.{ℤ, pos, negsuc}
 use mir.Syntax.{w64}
 use mir.Val.{SFits, of_z}
+use Rattle.std.specs.Prelude.{Option, Some, None}
 use Rattle.values.specs.Value.{same_integer}
 use Rattle.values.specs.Error.{kind_number, same_error}
 use Rattle.values.specs.declared.error.ErrorKind.{ErrorKind}
 use Rattle.values.specs.declared.error.ErrorKind.TheVariants.{NotFound, Access, Other}
-use Rattle.values.specs.declared.error.Error.{Error}
-use Rattle.values.specs.declared.error.Error.TheVariants.{None, Is}
+use Rattle.values.specs.declared.error.TagError.{TagError}
 
 apart : (m n : ℕ) → m < 2 ^ 63 → n < 2 ^ 63 → m ≡ 2 ^ 64 - suc n → ⊥
 apart m n f g e = omega arith
@@ -44,13 +44,13 @@ same_kind (Other m) Access e = absurd (omega arith)
 same_kind (Other m) (Other n) e = let s : m ≡ n = omega arith in ap Other s
 
 -- Errors that are the same are equal.
-pub same_error_equal : (a b : Error) → same_error a b ≡ true → a ≡ b
+pub same_error_equal : (a b : Option TagError) → same_error a b ≡ true → a ≡ b
 same_error_equal None None e = refl
-same_error_equal None (Is b) e = absurd (true≢false (sym e))
-same_error_equal (Is a) None e = absurd (true≢false (sym e))
-same_error_equal (Is a) (Is b) e = go (eqb (kind_number a.kind) (kind_number b.kind)) refl (eqb a.message b.message) refl e
+same_error_equal None (Some b) e = absurd (true≢false (sym e))
+same_error_equal (Some a) None e = absurd (true≢false (sym e))
+same_error_equal (Some a) (Some b) e = go (eqb (kind_number a.kind) (kind_number b.kind)) refl (eqb a.message b.message) refl e
   where
-    go : (s : Bool) → eqb (kind_number a.kind) (kind_number b.kind) ≡ s → (t : Bool) → eqb a.message b.message ≡ t → (s && t) ≡ true → Is a ≡ Is b
+    go : (s : Bool) → eqb (kind_number a.kind) (kind_number b.kind) ≡ s → (t : Bool) → eqb a.message b.message ≡ t → (s && t) ≡ true → Some a ≡ Some b
     go true p true q h =
         let k : a.kind ≡ b.kind = same_kind a.kind b.kind (eqb-true _ _ p) in
         let m : a.message ≡ b.message = eqb-true _ _ q in
@@ -59,6 +59,6 @@ same_error_equal (Is a) (Is b) e = go (eqb (kind_number a.kind) (kind_number b.k
     go false p t q h = absurd (true≢false (sym h))
 
 -- An error is the same as itself.
-pub same_error_refl : (a : Error) → same_error a a ≡ true
+pub same_error_refl : (a : Option TagError) → same_error a a ≡ true
 same_error_refl None = refl
-same_error_refl (Is a) = rw (eq-eqb (kind_number a.kind) (kind_number a.kind) refl, eq-eqb a.message a.message refl)
+same_error_refl (Some a) = rw (eq-eqb (kind_number a.kind) (kind_number a.kind) refl, eq-eqb a.message a.message refl)

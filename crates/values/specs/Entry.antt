@@ -1,19 +1,16 @@
 -- Rule 2: qualities, entries and readings.
-use Rattle.std.specs.Prelude.{Bool, true, false, ◌&&◌, ℕ, eqb, ℤ}
+use Rattle.std.specs.Prelude.{Bool, true, false, ◌&&◌, ℕ, eqb, ℤ, Option, Some, None}
 use Rattle.values.specs.Value.{same_value}
 use Rattle.values.specs.Error.{same_error}
 use Rattle.values.specs.declared.value.Value.{Value}
 use Rattle.values.specs.declared.value.Value.TheVariants.{Null}
 use Rattle.values.specs.declared.error.ErrorKind.{ErrorKind}
 use Rattle.values.specs.declared.error.ErrorKind.TheVariants.{NotFound, Access, Other}
-use Rattle.values.specs.declared.error.Error.{Error}
-use Rattle.values.specs.declared.error.Error.TheVariants.{None, Is}
 use Rattle.values.specs.declared.entry.Quality.{Quality}
 use Rattle.values.specs.declared.entry.Quality.TheVariants.{Good, Bad, Missing, Stale}
 use Rattle.values.specs.declared.entry.Entry.{Entry}
-use Rattle.values.specs.declared.entry.Held.{Held}
-use Rattle.values.specs.declared.entry.Held.TheVariants.{None as Nothing, Is as Has}
 use Rattle.values.specs.declared.entry.TagResult.{TagResult}
+use Rattle.values.specs.declared.error.TagError.{TagError}
 
 -- A quality's number.
 abbrev pub quality_number : Quality → ℕ
@@ -34,25 +31,25 @@ quality_of_kind Access = Missing
 quality_of_kind (Other code) = Bad
 
 -- Rule 2: no error is good; NotFound and Access are missing; every other kind is bad.
-abbrev pub quality_of : Error → Quality
+abbrev pub quality_of : Option TagError → Quality
 quality_of None = Good
-quality_of (Is e) = quality_of_kind e.kind
+quality_of (Some e) = quality_of_kind e.kind
 
 -- The value that an entry holds, null if there is no entry.
-abbrev pub kept : Held → Value
-kept Nothing = Null
-kept (Has e) = e.value
+abbrev pub kept : Option Entry → Value
+kept None = Null
+kept (Some e) = e.value
 
 -- Rule 2: good carries its value (none is null); missing carries null; bad keeps the old cached value, null if none.
 -- No reading is stale; rule 7 has a stale entry keep its value.
-abbrev pub merged_value : Quality → Value → Held → Value
+abbrev pub merged_value : Quality → Value → Option Entry → Value
 merged_value Good read old = read
 merged_value Bad read old = kept old
 merged_value Missing read old = Null
 merged_value Stale read old = kept old
 
 -- Rule 2: the entry that a reading at the wall time t makes of the cached one.
-abbrev pub merged : Held → TagResult → ℤ → Entry
+abbrev pub merged : Option Entry → TagResult → ℤ → Entry
 merged old r t = record { value = merged_value (quality_of r.error) r.value old; quality = quality_of r.error; t = t; error = r.error }
 
 -- Rule 2: `same` compares value, quality and error, and not the time.

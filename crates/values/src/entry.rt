@@ -2,7 +2,7 @@
 ghost use Rattle.std.specs.Prelude.{◌≡◌};
 ghost use Rattle.values.specs.Entry.{quality_number, is_good, quality_of, kept, merged_value, merged, same_entry};
 
-use super::error::{Error, ErrorKind, same_error};
+use super::error::{ErrorKind, TagError, same_error};
 use super::value::{Value, same_value};
 
 #[derive(Clone, Copy)]
@@ -19,21 +19,14 @@ pub struct Entry {
     pub value: Value,
     pub quality: Quality,
     pub t: i64,
-    pub error: Error,
-}
-
-// The Rust's `Option<Entry>`.
-#[derive(Clone, Copy)]
-pub enum Held {
-    None,
-    Is(Entry),
+    pub error: Option<TagError>,
 }
 
 // What the host read of one tag; where there is an error the value does not count.
 #[derive(Clone, Copy)]
 pub struct TagResult {
     pub value: Value,
-    pub error: Error,
+    pub error: Option<TagError>,
 }
 
 // 0 for good, 1 for bad, 2 for missing, 3 for stale.
@@ -51,65 +44,52 @@ pub fn quality_number(q: Quality) -> u8
 pub fn is_good(q: Quality) -> bool
     ensures { result ≡ is_good q }
 {
-    match q {
-        Quality::Good => true,
-        Quality::Bad => false,
-        Quality::Missing => false,
-        Quality::Stale => false,
-    }
+    matches!(q, Quality::Good)
 }
 
 // The quality that an error means.
-pub fn quality_of(e: Error) -> Quality
+pub fn quality_of(e: Option<TagError>) -> Quality
     ensures { result ≡ quality_of e }
 {
-    match e {
-        Error::None => Quality::Good,
-        Error::Is(x) => {
-            let k = x.kind;
-            match k {
-                ErrorKind::NotFound => Quality::Missing,
-                ErrorKind::Access => Quality::Missing,
-                ErrorKind::Other(_) => Quality::Bad,
-            }
-        }
+    let Some(x) = e else {
+        return Quality::Good;
+    };
+    match x.kind {
+        ErrorKind::NotFound | ErrorKind::Access => Quality::Missing,
+        ErrorKind::Other(_) => Quality::Bad,
     }
 }
 
 // The value of an entry, null where there is none.
-pub fn kept_value(old: Held) -> Value
+pub fn kept_value(old: Option<Entry>) -> Value
     ensures { result ≡ kept old }
 {
     match old {
-        Held::None => Value::Null,
-        Held::Is(e) => e.value,
+        None => Value::Null,
+        Some(e) => e.value,
     }
 }
 
-fn merged_value(q: Quality, read: Value, old: Held) -> Value
+fn merged_value(q: Quality, read: Value, old: Option<Entry>) -> Value
     ensures { result ≡ merged_value q read old }
 {
     match q {
         Quality::Good => read,
-        Quality::Bad => kept_value(old),
+        Quality::Bad | Quality::Stale => kept_value(old),
         Quality::Missing => Value::Null,
-        Quality::Stale => kept_value(old),
     }
 }
 
 // The entry that a reading at `t` makes of the cached one.
-pub fn merge(old: Held, res: TagResult, t: i64) -> Entry
+pub fn merge(old: Option<Entry>, res: TagResult, t: i64) -> Entry
     ensures { result ≡ merged old res t }
 {
-    let error = res.error;
-    let read = res.value;
-    let q = quality_of(error);
-    let value = merged_value(q, read, old);
+    let quality = quality_of(res.error);
     Entry {
-        value: value,
-        quality: q,
-        t: t,
-        error: error,
+        value: merged_value(quality, res.value, old),
+        quality,
+        t,
+        error: res.error,
     }
 }
 
@@ -117,17 +97,7 @@ pub fn merge(old: Held, res: TagResult, t: i64) -> Entry
 pub fn same(a: Entry, b: Entry) -> bool
     ensures { result ≡ same_entry a b }
 {
-    let p = a.quality;
-    let q = b.quality;
-    if quality_number(p) != quality_number(q) {
-        return false;
-    }
-    let e = a.error;
-    let f = b.error;
-    if !same_error(e, f) {
-        return false;
-    }
-    let x = a.value;
-    let y = b.value;
-    same_value(x, y)
+    quality_number(a.quality) == quality_number(b.quality)
+        && same_error(a.error, b.error)
+        && same_value(a.value, b.value)
 }

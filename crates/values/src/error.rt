@@ -16,13 +16,6 @@ pub struct TagError {
     pub message: u32,
 }
 
-// The Rust's `Option<TagError>`.
-#[derive(Clone, Copy)]
-pub enum Error {
-    None,
-    Is(TagError),
-}
-
 // 0 for NotFound, 1 for Access, and the code plus 2 for another.
 pub fn kind_number(k: ErrorKind) -> u32
     ensures { result ≡ kind_number k }
@@ -30,40 +23,23 @@ pub fn kind_number(k: ErrorKind) -> u32
     match k {
         ErrorKind::NotFound => 0,
         ErrorKind::Access => 1,
-        ErrorKind::Other(code) => wide(code) + 2,
+        ErrorKind::Other(code) => code as u32 + 2,
     }
-}
-
-fn wide(code: u16) -> u32
-    ensures { result ≡ code }
-{
-    code as u32
 }
 
 fn same_tag_error(a: TagError, b: TagError) -> bool
     ensures { result ≡ same_tag_error a b }
 {
-    let x = a.kind;
-    let y = b.kind;
-    if kind_number(x) == kind_number(y) {
-        a.message == b.message
-    } else {
-        false
-    }
+    kind_number(a.kind) == kind_number(b.kind) && a.message == b.message
 }
 
 // Whether both are none, or both the same kind with the same message.
-pub fn same_error(a: Error, b: Error) -> bool
+pub fn same_error(a: Option<TagError>, b: Option<TagError>) -> bool
     ensures { result ≡ same_error a b }
 {
-    match a {
-        Error::None => match b {
-            Error::None => true,
-            Error::Is(_) => false,
-        },
-        Error::Is(x) => match b {
-            Error::None => false,
-            Error::Is(y) => same_tag_error(x, y),
-        },
+    match (a, b) {
+        (None, None) => true,
+        (Some(x), Some(y)) => same_tag_error(x, y),
+        _ => false,
     }
 }

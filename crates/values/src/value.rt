@@ -10,59 +10,16 @@ pub enum Value {
     Float(f64),
 }
 
-fn same_bool(a: bool, v: Value) -> bool
-    ensures { result ≡ same_value (Value.Bool a) v }
-{
-    match v {
-        Value::Null => false,
-        Value::Bool(b) => a == b,
-        Value::Int(_) => false,
-        Value::Float(_) => false,
-    }
-}
-
-fn same_int(a: i64, v: Value) -> bool
-    ensures { result ≡ same_value (Value.Int a) v }
-{
-    match v {
-        Value::Null => false,
-        Value::Bool(_) => false,
-        Value::Int(b) => a == b,
-        Value::Float(_) => false,
-    }
-}
-
-fn same_float(a: f64, v: Value) -> bool
-    ensures { result ≡ same_value (Value.Float a) v }
-{
-    match v {
-        Value::Null => false,
-        Value::Bool(_) => false,
-        Value::Int(_) => false,
-        Value::Float(b) => a == b,
-    }
-}
-
-fn is_null(v: Value) -> bool
-    ensures { result ≡ same_value Value.Null v }
-{
-    match v {
-        Value::Null => true,
-        Value::Bool(_) => false,
-        Value::Int(_) => false,
-        Value::Float(_) => false,
-    }
-}
-
-// Whether two values are of one kind and equal.
+// Whether two values are of one kind and equal. A derived `==` would call std, which code of an engine must not.
 pub fn same_value(a: Value, b: Value) -> bool
     ensures { result ≡ same_value a b }
 {
-    match a {
-        Value::Null => is_null(b),
-        Value::Bool(x) => same_bool(x, b),
-        Value::Int(x) => same_int(x, b),
-        Value::Float(x) => same_float(x, b),
+    match (a, b) {
+        (Value::Null, Value::Null) => true,
+        (Value::Bool(x), Value::Bool(y)) => x == y,
+        (Value::Int(x), Value::Int(y)) => x == y,
+        (Value::Float(x), Value::Float(y)) => x == y,
+        _ => false,
     }
 }
 
@@ -70,12 +27,7 @@ pub fn same_value(a: Value, b: Value) -> bool
 pub fn is_number(v: Value) -> bool
     ensures { result ≡ is_number v }
 {
-    match v {
-        Value::Null => false,
-        Value::Bool(_) => false,
-        Value::Int(_) => true,
-        Value::Float(_) => true,
-    }
+    matches!(v, Value::Int(_) | Value::Float(_))
 }
 
 // A number as a float, an integer by nearest with ties to even; 0 for what is no number.
@@ -83,8 +35,7 @@ pub fn number_of(v: Value) -> f64
     ensures { result ≡ number_of v }
 {
     match v {
-        Value::Null => 0.0,
-        Value::Bool(_) => 0.0,
+        Value::Null | Value::Bool(_) => 0.0,
         Value::Int(n) => ieee::round::from_i64(n),
         Value::Float(x) => x,
     }

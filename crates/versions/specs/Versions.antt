@@ -1,6 +1,5 @@
 -- Rule 8: what a change of the version or a connect does.
-use Rattle.std.specs.Prelude.{Bool, false, not, ◌&&◌, ◌||◌, cond, List, [], ◌∷◌, ℕ, suc, eqb, get_or}
-use Rattle.table.specs.Tag.{f0}
+use Rattle.std.specs.Prelude.{Bool, not, ◌&&◌, ◌||◌, cond, List, [], ◌∷◌, ℕ, suc, eqb, get_or, Option, None}
 use Rattle.table.specs.declared.tag.Timing.{Timing}
 use Rattle.table.specs.declared.tag.Settings.{Settings}
 use Rattle.table.specs.declared.tag.Description.{Description}
@@ -8,11 +7,10 @@ use Rattle.table.specs.declared.tag.Description.TheVariants.{Unknown}
 use Rattle.table.specs.declared.tag.Tag.{Tag}
 use Rattle.settings.specs.Settings.{setting_in}
 use Rattle.heads.specs.Version.{is_changed}
-use Rattle.heads.specs.declared.version.Version.{Version}
 
 -- Rule 8: the missing mark cleared
 abbrev pub mark_cleared : Timing → Timing
-mark_cleared x = record { read = x.read; last = x.last; missing = false; retry = f0 }
+mark_cleared x = record { last = x.last; retry = None }
 
 -- Rule 8: on a version change every tag in the table that isn't a bit wants a description
 abbrev pub wants_taken : Tag → Bool → Bool → Bool
@@ -54,6 +52,6 @@ abbrev pub takes_settings : Bool → Bool → Bool
 takes_settings changed connecting = changed || connecting
 
 -- Rule 8: the table after a version answer
-unfoldable pub version_table : Version → Version → Bool → List ℕ → List ℕ → List Tag → List Tag
+unfoldable pub version_table : Option ℕ → Option ℕ → Bool → List ℕ → List ℕ → List Tag → List Tag
 version_table old new connecting settings words tags =
     cond (takes_settings (is_changed old new) connecting) (table_taken (is_changed old new) settings words tags) tags

@@ -7,18 +7,15 @@ ghost use Rattle.versions.specs.Versions.{taken_at, table_taken, takes_settings,
 use super::tag::tag_taken;
 use board::starts::tags_in;
 use board::tag::{is_bit, put_tag, tag_of};
-use heads::version::{Version, is_changed};
+use heads::version::is_changed;
 use settings::setting::setting_at;
 
 fn take_at(b: &mut [u8], settings: &[u8], k: usize, changed: bool)
     requires { IsBoard b.old }
     ensures { Holds b.new (with_tag (board_in b.old) k (taken_at changed settings.now (board_in b.old).table.words k (tag_at (board_in b.old).table k))) }
 {
-    let x = tag_of(b, k);
-    let s = setting_at(settings, k);
-    let bit = is_bit(b, k);
-    let y = tag_taken(x, s, bit, changed);
-    put_tag(b, k, y);
+    let x = tag_taken(tag_of(b, k), setting_at(settings, k), is_bit(b, k), changed);
+    put_tag(b, k, x);
 }
 
 // Every tag takes its setting.
@@ -26,25 +23,25 @@ pub fn take_all(b: &mut [u8], settings: &[u8], changed: bool)
     requires { IsBoard b.old }
     ensures { Holds b.new (with_records (board_in b.old) (table_taken changed settings.now (board_in b.old).table.words (board_in b.old).table.tags)) }
 {
-    let n = tags_in(b);
-    let mut k: usize = 0;
-    while k < n {
+    for k in 0..tags_in(b) {
         take_at(b, settings, k, changed);
-        k += 1;
     }
 }
 
 fn takes_settings(changed: bool, connecting: bool) -> bool
     ensures { result ≡ takes_settings changed connecting }
 {
-    if changed {
-        return true;
-    }
-    connecting
+    changed || connecting
 }
 
 // A change or a connect clears missing marks and takes the new settings.
-pub fn check_version(b: &mut [u8], settings: &[u8], old: Version, new: Version, connecting: bool)
+pub fn check_version(
+    b: &mut [u8],
+    settings: &[u8],
+    old: Option<u64>,
+    new: Option<u64>,
+    connecting: bool,
+)
     requires { IsBoard b.old }
     ensures { Holds b.new (with_records (board_in b.old) (version_table old new connecting settings.now (board_in b.old).table.words (board_in b.old).table.tags)) }
 {

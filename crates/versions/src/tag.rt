@@ -7,59 +7,30 @@ use table::tag::{Description, Settings, Tag, Timing};
 fn mark_cleared(x: Timing) -> Timing
     ensures { result ≡ mark_cleared x }
 {
-    Timing {
-        read: x.read,
-        last: x.last,
-        missing: false,
-        retry: 0.0,
-    }
+    Timing { retry: None, ..x }
 }
 
 fn wants_taken(x: Tag, bit: bool, changed: bool) -> bool
     ensures { result ≡ wants_taken x bit changed }
 {
-    if x.wants {
-        return true;
-    }
-    if !changed {
-        return false;
-    }
-    if x.tier == 0 {
-        return false;
-    }
-    !bit
+    x.wants || changed && x.tier != 0 && !bit
 }
 
 // A change forgets what is known.
 fn description_taken(d: Description, changed: bool) -> Description
     ensures { result ≡ description_taken d changed }
 {
-    if changed {
-        return Description::Unknown;
-    }
-    d
+    if changed { Description::Unknown } else { d }
 }
 
 pub fn tag_taken(x: Tag, s: Settings, bit: bool, changed: bool) -> Tag
     ensures { result ≡ tag_taken x s bit changed }
 {
-    let grace = x.grace;
-    let old = x.timing;
-    let timing = mark_cleared(old);
-    let wants = wants_taken(x, bit, changed);
-    let d = x.description;
-    let description = description_taken(d, changed);
-    let cached = x.cached;
-    let published = x.published;
     Tag {
-        tier: x.tier,
-        grace: grace,
-        timing: timing,
-        added: x.added,
-        wants: wants,
-        description: description,
+        timing: mark_cleared(x.timing),
+        wants: wants_taken(x, bit, changed),
+        description: description_taken(x.description, changed),
         settings: s,
-        cached: cached,
-        published: published,
+        ..x
     }
 }

@@ -4,104 +4,85 @@ use memory::cells::put_cell;
 use replies::reply::Reply;
 use step_checks::awaiting::Answer;
 
-const TAGS: usize = 4;
+// A reading is four cells: the value's kind and word, the error's word and its message.
+const CELLS: usize = 4;
 
-// A result is four cells: the value's kind and word, the error's word and its message.
+// The readings of four tags, in bytes.
 pub const RESULTS: usize = 128;
 
 // `rounds` is how many readings were asked for.
-#[derive(Clone, Copy)]
+#[derive(Clone, Copy, Default)]
 pub struct Host {
     pub clock: f64,
     pub rounds: u64,
 }
 
-#[derive(Clone, Copy)]
-struct Result {
-    kind: u64,
-    word: u64,
-    error: u64,
+// The cells of a value without an error, and of an error without a value; neither has a message.
+fn value(kind: u64, word: u64) -> [u64; CELLS] {
+    [kind, word, 0, 0]
 }
 
-fn put(list: &mut [u8], tag: usize, r: Result) {
-    let p = 4 * (tag % TAGS);
-    put_cell(list, p, r.kind);
-    put_cell(list, p + 1, r.word);
-    put_cell(list, p + 2, r.error);
-    put_cell(list, p + 3, 0);
+fn error(word: u64) -> [u64; CELLS] {
+    [0, 0, word, 0]
 }
 
 // A float at first, then a failure with the driver's own code 7.
-fn level(rounds: u64) -> Result {
+fn level(rounds: u64) -> [u64; CELLS] {
     if rounds == 1 {
-        return Result {
-            kind: 3,
-            word: 0x4004_0000_0000_0000,
-            error: 0,
-        };
-    }
-    Result {
-        kind: 0,
-        word: 0,
-        error: 10,
-    }
-}
-
-// A bool, an integer that changes, the level, and a tag that is not found.
-pub fn readings(list: &mut [u8], rounds: u64) {
-    let alarm = Result {
-        kind: 1,
-        word: 1,
-        error: 0,
-    };
-    let flow = Result {
-        kind: 2,
-        word: rounds,
-        error: 0,
-    };
-    let pump = Result {
-        kind: 0,
-        word: 0,
-        error: 1,
-    };
-    put(list, 0, alarm);
-    put(list, 1, flow);
-    put(list, 2, level(rounds));
-    put(list, 3, pump);
-}
-
-fn to_read(rounds: u64) -> u64 {
-    if rounds < 3 {
-        Answer::RESULTS
+        value(3, f64::to_bits(2.5))
     } else {
-        Answer::LOST
+        error(10)
     }
 }
 
-fn to_connect(rounds: u64) -> u64 {
-    if rounds == 0 {
-        Answer::OPENED
-    } else {
-        Answer::NOT_OPENED
+impl Host {
+    // The wall time is the clock's, in milliseconds.
+    pub fn wall(self) -> i64 {
+        let ms = ieee::round::to_u64(ieee::round::round_ties_even(self.clock * 1000.0));
+        (ms % 0x1_0000_0000) as i64
     }
-}
 
-// The kind of the answer to a request or an event, where `rounds` counts a reading asked for now.
-pub fn answer(kind: u64, rounds: u64) -> u64 {
-    if kind == Reply::CONNECT {
-        return to_connect(rounds);
+    // A bool, an integer that changes, the level, and a tag that is not found.
+    pub fn readings(self) -> [u8; RESULTS] {
+        let mut list = [0u8; RESULTS];
+        let readings = [
+            value(1, 1),
+            value(2, self.rounds),
+            level(self.rounds),
+            error(1),
+        ];
+        for (i, cell) in readings.as_flattened().iter().enumerate() {
+            put_cell(&mut list, i, *cell);
+        }
+        list
     }
-    if kind == Reply::VERSION {
-        return Answer::NO_VERSION;
+
+    // The kind of the answer to a request or an event, as numbers of the C interface, where `rounds` counts a reading asked for now.
+    pub fn answer(self, kind: u64) -> u64 {
+        match kind {
+            Reply::CONNECT if self.rounds == 0 => Answer::OPENED,
+            Reply::CONNECT => Answer::NOT_OPENED,
+            Reply::VERSION => Answer::NO_VERSION,
+            Reply::READ if self.rounds < 3 => Answer::RESULTS,
+            Reply::READ => Answer::LOST,
+            Reply::DESCRIBE => Answer::NOT_DESCRIBED,
+            Reply::WAIT => Answer::WAITED,
+            _ => Answer::TAKEN,
+        }
     }
-    if kind == Reply::READ {
-        return to_read(rounds);
+
+    // What the host has come to when it answers a request.
+    pub fn after(self, r: Reply) -> Host {
+        match r.kind {
+            Reply::WAIT => Host {
+                clock: self.clock + r.seconds,
+                ..self
+            },
+            Reply::READ => Host {
+                rounds: self.rounds % 0x1_0000 + 1,
+                ..self
+            },
+            _ => self,
+        }
     }
-    if kind == Reply::DESCRIBE {
-        return Answer::NOT_DESCRIBED;
-    }
-    if kind == Reply::WAIT {
-        return Answer::WAITED;
-    }
-    Answer::TAKEN
 }

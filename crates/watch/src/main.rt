@@ -6,8 +6,9 @@ mod host; // the script
 mod print; // what is printed
 mod run; // the steps
 
+use run::Watch;
 use std::io;
 
 fn main(rt: HostRuntime) -> io::Result<()> {
-    run::run(&rt)
+    Watch::new(rt.alloc())?.run(&rt)
 }

@@ -1,29 +1,27 @@
-// What is printed.
+// What is printed of a change.
 use changes::Change;
-use names::directory::MAX_NAMES;
-use std::io;
+use std::fmt;
 use values::entry::Quality;
-use values::error::Error;
+use values::error::kind_number;
 use values::value::Value;
-use words::scalar::word_of_int;
 
-// With one place behind the point.
-fn float(rt: &impl Print, x: f64) -> io::Result<()> {
-    let n = ieee::round::to_u64(ieee::round::round_ties_even(x * 10.0));
-    print!(rt; "{}.{}", n / 10, n % 10)
-}
+// A value; a float with one place behind the point.
+#[derive(Clone, Copy)]
+struct Shown(Value);
 
-fn value(rt: &impl Print, v: Value) -> io::Result<()> {
-    match v {
-        Value::Null => print!(rt; "null"),
-        Value::Bool(b) => print!(rt; "{b}"),
-        Value::Int(n) => print!(rt; "{}", word_of_int(n)),
-        Value::Float(x) => float(rt, x),
+impl fmt::Display for Shown {
+    fn fmt<W: fmt::Write>(&self, f: &mut fmt::Formatter<W>) -> fmt::Result {
+        match self.0 {
+            Value::Null => write!(f, "null"),
+            Value::Bool(b) => write!(f, "{b}"),
+            Value::Int(n) => write!(f, "{n}"),
+            Value::Float(x) => write!(f, "{x:.1}"),
+        }
     }
 }
 
-fn quality(q: Quality) -> &'static str {
-    match q {
+fn name_of(quality: Quality) -> &'static str {
+    match quality {
         Quality::Good => "good",
         Quality::Bad => "bad",
         Quality::Missing => "missing",
@@ -31,36 +29,27 @@ fn quality(q: Quality) -> &'static str {
     }
 }
 
-// The number of the error's kind.
-fn error(rt: &impl Print, e: Error) -> io::Result<()> {
-    let Error::Is(x) = e else {
-        return Ok(());
-    };
-    print!(rt; ", error {}", values::error::kind_number(x.kind))
+// A line: name, value, quality, wall time, and the number of the error's kind.
+#[derive(Clone, Copy)]
+pub struct Line<'a> {
+    pub name: &'a str,
+    pub change: Change,
 }
 
-// A line: name, value, quality, wall time, error.
-fn change(rt: &impl Print, name: &[u8], c: Change) -> io::Result<()> {
-    let e = c.entry;
-    print!(rt; "  ")?;
-    rt.write_all(name)?;
-    print!(rt; " ")?;
-    value(rt, e.value)?;
-    print!(rt; " {} at {}", quality(e.quality), word_of_int(e.t))?;
-    error(rt, e.error)?;
-    println!(rt)
-}
-
-// The first n of a run.
-pub fn changes<'a>(
-    rt: &impl Print,
-    names: &'a [u8],
-    ends: &'a [u32],
-    run: [Change; MAX_NAMES],
-    n: usize,
-) -> io::Result<()> {
-    for c in run.iter().take(n) {
-        change(rt, directory::name_in(names, ends, c.tag as usize), *c)?;
+impl<'a> fmt::Display for Line<'a> {
+    fn fmt<W: fmt::Write>(&self, f: &mut fmt::Formatter<W>) -> fmt::Result {
+        let entry = self.change.entry;
+        let quality = name_of(entry.quality);
+        write!(
+            f,
+            "  {} {} {quality} at {}",
+            self.name,
+            Shown(entry.value),
+            entry.t
+        )?;
+        if let Some(e) = entry.error {
+            write!(f, ", error {}", kind_number(e.kind))?;
+        }
+        Ok(())
     }
-    Ok(())
 }

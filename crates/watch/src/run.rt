@@ -1,131 +1,124 @@
 // Creation, tier calls and steps.
-use super::host::{Host, RESULTS, answer, readings};
-use super::print::changes;
+use super::host::{Host, RESULTS};
+use super::print::Line;
 use capi::calls::{wz_set_tier, wz_step};
 use capi::creation::wz_create;
-use changes::Change;
+use changes::{Change, read_changes};
 use heads::options::Options;
 use lent::changes::CHANGE;
 use names::directory::MAX_NAMES;
 use replies::reply::Reply;
-use std::io;
+use std::alloc::{AllocError, Global};
+use std::{io, str};
 use step_checks::awaiting::Answer;
+
+const NAMES: [u8; 18] = *b"AlarmFlowLevelPump";
+
+const ENDS: [u32; 4] = [5, 9, 14, 18];
 
 // The bytes of an engine of four names.
 const MEMORY: usize = 4206;
 
-// Four cells for each of four tags.
-const SETTINGS: usize = 128;
+// Four cells for each of four tags, none of them set.
+const SETTINGS: [u8; 128] = [0; 128];
 
 // Room for a change of every name that a directory can have.
 const LIST: usize = MAX_NAMES * CHANGE;
 
-// The wall time is the clock's, in milliseconds.
-fn wall(clock: f64) -> i64 {
-    let ms = ieee::round::to_u64(ieee::round::round_ties_even(clock * 1000.0));
-    (ms % 0x1_0000_0000) as i64
+// An engine with its host, the list that its steps fill, and the records that are read of it.
+#[derive(Drop)]
+pub struct Watch {
+    mem: Vec<u8>,
+    host: Host,
+    out: Vec<u8>,
+    run: Vec<Change>,
 }
 
-// An event of values is read as records, over the first places of the run, and printed.
-fn event<'a>(
-    rt: &impl Print,
-    names: &'a [u8],
-    ends: &'a [u32],
-    run: [Change; MAX_NAMES],
-    out: &[u8],
-    r: Reply,
-) -> io::Result<[Change; MAX_NAMES]> {
-    if r.kind != Reply::VALUES {
-        return Ok(run);
+impl Watch {
+    pub fn new(alloc: Global) -> Result<Watch, AllocError> {
+        Ok(Watch {
+            mem: vec![in alloc; 0u8; MEMORY]?,
+            host: Host::default(),
+            out: vec![in alloc; 0u8; LIST]?,
+            run: vec![in alloc; Change::none(); MAX_NAMES]?,
+        })
     }
-    let n = (r.count % 0x1_0000) as usize;
-    let filled = changes::with_changes(run, out, n);
-    println!(rt; "values {}", r.count)?;
-    changes(rt, names, ends, filled, n)?;
-    Ok(filled)
-}
 
-fn refused(rt: &impl Print, code: u64) -> io::Result<()> {
-    println!(rt; "refused {code}")
-}
-
-// What the host has come to when it answers a request.
-fn host_after(h: Host, r: Reply) -> Host {
-    let clock = if r.kind == Reply::WAIT {
-        h.clock + r.seconds
-    } else {
-        h.clock
-    };
-    let rounds = if r.kind == Reply::READ {
-        h.rounds % 0x1_0000 + 1
-    } else {
-        h.rounds
-    };
-    Host {
-        clock: clock,
-        rounds: rounds,
-    }
-}
-
-// One step. Its answer has a list of readings, or of settings for a version: none is set for any tag.
-fn step(mem: &mut [u8], h: Host, kind: u64, list: &mut [u8], out: &mut [u8]) -> Reply {
-    let w = wall(h.clock);
-    if kind == Answer::RESULTS {
-        readings(list, h.rounds);
-        return wz_step(mem, h.clock, w, kind, 0, 0, list, out);
-    }
-    let settings = [0u8; SETTINGS];
-    wz_step(mem, h.clock, w, kind, 0, 0, &settings, out)
-}
-
-fn steps<'a>(rt: &impl Print, names: &'a [u8], ends: &'a [u32], mem: &mut [u8]) -> io::Result<()> {
-    let mut out = [0u8; LIST];
-    let mut list = [0u8; RESULTS];
-    let mut run = [Change::none(); MAX_NAMES];
-    let mut h = Host {
-        clock: 0.0,
-        rounds: 0,
-    };
-    let mut kind = Answer::BEGIN;
-    for _ in 0..30 {
-        let r = step(mem, h, kind, &mut list, &mut out);
-        if r.code != 0 {
-            return refused(rt, r.code);
+    // The engine is created, and each tag enters the first tier; the number of a refusal, or 0.
+    fn begin(&mut self) -> u32 {
+        let options = Options {
+            cycle: 1.0,
+            period: 3.0,
+            grace: 0.0,
+        };
+        let code = wz_create(&mut self.mem, &NAMES, &ENDS, options, &SETTINGS, &[]);
+        for tag in 0..4 {
+            wz_set_tier(&mut self.mem, 0.0, tag, 1);
         }
-        let next = event(rt, names, ends, run, &out, r)?;
-        run = next;
-        h = host_after(h, r);
-        kind = answer(r.kind, h.rounds);
+        code
     }
-    Ok(())
-}
 
-fn enter(mem: &mut [u8]) {
-    wz_set_tier(mem, 0.0, 0, 1);
-    wz_set_tier(mem, 0.0, 1, 1);
-    wz_set_tier(mem, 0.0, 2, 1);
-    wz_set_tier(mem, 0.0, 3, 1);
-}
-
-fn begin<'a>(rt: &impl Print, names: &'a [u8], ends: &'a [u32]) -> io::Result<()> {
-    let mut mem = [0u8; MEMORY];
-    let settings = [0u8; SETTINGS];
-    let groups = [0u8; 0];
-    let options = Options {
-        cycle: 1.0,
-        period: 3.0,
-        grace: 0.0,
-    };
-    let code = wz_create(&mut mem, names, ends, options, &settings, &groups);
-    if code != 0 {
-        return refused(rt, code as u64);
+    // One step. Its answer has a list of readings, or of settings for a version.
+    fn step(&mut self, kind: u64) -> Reply {
+        let clock = self.host.clock;
+        let wall = self.host.wall();
+        if kind == Answer::RESULTS {
+            let list = self.host.readings();
+            return wz_step(&mut self.mem, clock, wall, kind, 0, 0, &list, &mut self.out);
+        }
+        wz_step(
+            &mut self.mem,
+            clock,
+            wall,
+            kind,
+            0,
+            0,
+            &SETTINGS,
+            &mut self.out,
+        )
     }
-    enter(&mut mem);
-    steps(rt, names, ends, &mut mem)
-}
 
-pub fn run(rt: &impl Print) -> io::Result<()> {
-    let names = *b"AlarmFlowLevelPump";
-    let ends = [5u32, 9, 14, 18];
-    begin(rt, &names, &ends)
+    // An event of values is read as records, over the first places of the run, and printed.
+    fn event(&mut self, rt: &impl Print, r: Reply) -> io::Result<()> {
+        if r.kind != Reply::VALUES {
+            return Ok(());
+        }
+        let n = r.count as usize;
+        read_changes(&mut self.run, &self.out, n);
+        println!(rt; "values {n}")?;
+        for change in self.run.iter().take(n) {
+            let name = directory::name_in(&NAMES, &ENDS, usize::from(change.tag));
+            let name = str::from_utf8(name).unwrap_or("?");
+            println!(rt;
+                "{}",
+                Line {
+                    name,
+                    change: *change
+                }
+            )?;
+        }
+        Ok(())
+    }
+
+    fn steps(&mut self, rt: &impl Print) -> io::Result<()> {
+        let mut kind = Answer::BEGIN;
+        for _ in 0..30 {
+            let r = self.step(kind);
+            if r.code != 0 {
+                return println!(rt; "refused {}", r.code);
+            }
+            self.event(rt, r)?;
+            self.host = self.host.after(r);
+            kind = self.host.answer(r.kind);
+        }
+        Ok(())
+    }
+
+    pub fn run(&mut self, rt: &impl Print) -> io::Result<()> {
+        let code = self.begin();
+        if code != 0 {
+            return println!(rt; "refused {code}");
+        }
+        self.steps(rt)
+    }
 }

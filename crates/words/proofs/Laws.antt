@@ -15,16 +15,15 @@ use native.Mathlib.Nat.{mod-eq_of_lt}
 use mir.Val.{SFits, of_z, to_z, bool_byte}
 use mir.Syntax.{w64}
 use mir.Facts.{to_z_pos, to_z-of_z}
+use Rattle.std.specs.Prelude.{Some}
 use Rattle.values.specs.Entry.{quality_number}
 use Rattle.values.specs.declared.value.Value.{Value}
 use Rattle.values.specs.declared.value.Value.TheVariants.{Bool as Flag}
 use Rattle.values.specs.declared.error.ErrorKind.TheVariants.{Other}
 use Rattle.values.specs.declared.error.TagError.{TagError}
-use Rattle.values.specs.declared.error.Error.TheVariants.{Is as IsError}
 use Rattle.values.specs.declared.entry.Quality.{Quality}
 use Rattle.values.specs.declared.entry.Quality.TheVariants.{Good, Bad, Missing, Stale}
 use Rattle.values.specs.declared.entry.Entry.{Entry}
-use Rattle.values.specs.declared.entry.Held.TheVariants.{Is}
 use Rattle.words.specs.Value.{value_from, value_words_of}
 use Rattle.words.specs.declared.value.ValueWords.{ValueWords}
 use Rattle.words.specs.Error.{kind_from, error_from}
@@ -88,7 +87,7 @@ kind_other code h =
     rw (ne_eqb (code + 3) 2 (λ e. omega arith), le-ltb (code + 3) 3 (omega arith), less, mod-eq_of_lt h)
 
 -- Words that hold an error's parts hold the error.
-pub error_coded : (x : TagError) (kind : ℕ) → 0 < kind → kind_from kind ≡ x.kind → x.message < 0x1_0000_0000 → error_from kind x.message ≡ IsError x
+pub error_coded : (x : TagError) (kind : ℕ) → 0 < kind → kind_from kind ≡ x.kind → x.message < 0x1_0000_0000 → error_from kind x.message ≡ Some x
 error_coded x kind some k m = rw (ne_eqb kind 0 (λ e. omega arith), k, mod-eq_of_lt m)
 
 -- A quality's word holds the quality, and is not 0.
@@ -101,6 +100,6 @@ quality_coded Stale = refl
 -- Words that hold an entry's parts hold the entry.
 pub entry_coded : (e : Entry) (w : EntryWords)
     → w.held ≡ quality_number e.quality + 1 → value_from w.kind w.word ≡ e.value → to_z w64 w.t ≡ e.t → error_from w.error w.message ≡ e.error
-    → held_from w ≡ Is e
+    → held_from w ≡ Some e
 unfolding entry_from
 entry_coded e w q v t f = rw (ne_eqb w.held 0 (λ z. omega arith), q, quality_coded e.quality, v, t, f)

@@ -14,6 +14,8 @@ use Rattle.words.proofs.TheLinks.words-scalar-int_of_word
 use Rattle.words.proofs.TheLinks.words-scalar-word_of_flag
 use Rattle.words.proofs.TheLinks.words-scalar-word_of_float
 use Rattle.words.proofs.TheLinks.words-scalar-word_of_int
+use Rattle.words.proofs.TheLinks.words-time-time_from
+use Rattle.words.proofs.TheLinks.words-time-time_words
 use Rattle.words.proofs.TheLinks.words-value-value_from
 use Rattle.words.proofs.TheLinks.words-value-value_words
 
@@ -52,6 +54,12 @@ scalar_word_of_float = link.linked-words::scalar::word_of_float
 
 pub scalar_word_of_int : Linked words-scalar-word_of_int.code
 scalar_word_of_int = link.linked-words::scalar::word_of_int
+
+pub time_time_from : Linked words-time-time_from.code
+time_time_from = link.linked-words::time::time_from
+
+pub time_time_words : Linked words-time-time_words.code
+time_time_words = link.linked-words::time::time_words
 
 pub value_value_from : Linked words-value-value_from.code
 value_value_from = link.linked-words::value::value_from

@@ -1,13 +1,11 @@
 -- Entries as six words: 0 for none or the quality's number and 1, the value, the time and the error.
-use Rattle.std.specs.Prelude.{cond, List, [], ◌∷◌, ℕ, ◌+◌, eqb}
+use Rattle.std.specs.Prelude.{cond, List, [], ◌∷◌, ℕ, ◌+◌, eqb, Option, Some, None}
 use Rattle.std.proofs.Common.{to_z, of_z}
 use Rattle.std.specs.Int.{w64}
 use Rattle.values.specs.Entry.{quality_number}
 use Rattle.values.specs.declared.entry.Quality.{Quality}
 use Rattle.values.specs.declared.entry.Quality.TheVariants.{Good, Bad, Missing, Stale}
 use Rattle.values.specs.declared.entry.Entry.{Entry}
-use Rattle.values.specs.declared.entry.Held.{Held}
-use Rattle.values.specs.declared.entry.Held.TheVariants.{None, Is}
 use Rattle.words.specs.Value.{value_from, value_words_of}
 use Rattle.words.specs.Error.{error_from, error_words_of}
 use Rattle.words.specs.declared.entry.EntryWords.{EntryWords}
@@ -19,8 +17,8 @@ quality_from held = cond (eqb held 2) Bad (cond (eqb held 3) Missing (cond (eqb 
 unfoldable pub entry_from : EntryWords → Entry
 entry_from w = record { value = value_from w.kind w.word; quality = quality_from w.held; t = to_z w64 w.t; error = error_from w.error w.message }
 
-abbrev pub held_from : EntryWords → Held
-held_from w = cond (eqb w.held 0) None (Is (entry_from w))
+abbrev pub held_from : EntryWords → Option Entry
+held_from w = cond (eqb w.held 0) None (Some (entry_from w))
 
 -- the words of an entry
 unfoldable pub entry_words_of : Entry → EntryWords
@@ -34,12 +32,12 @@ entry_words_of e = record {
 }
 
 -- the words of an entry, or of none
-abbrev pub held_words_of : Held → EntryWords
+abbrev pub held_words_of : Option Entry → EntryWords
 held_words_of None = record { held = 0; kind = 0; word = 0; t = 0; error = 0; message = 0 }
-held_words_of (Is e) = entry_words_of e
+held_words_of (Some e) = entry_words_of e
 
 -- The cells that a host is given of an entry, or of none: its words, and two of 0.
-abbrev pub entry_cells : Held → List ℕ
+abbrev pub entry_cells : Option Entry → List ℕ
 entry_cells h =
     let w = held_words_of h in
     w.held ∷ w.kind ∷ w.word ∷ w.t ∷ w.error ∷ w.message ∷ 0 ∷ 0 ∷ []

@@ -2,3 +2,4 @@
 pub mod Value
 pub mod Error
 pub mod Entry
+pub mod Time

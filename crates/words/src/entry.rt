@@ -1,13 +1,13 @@
 // An entry, or none, as six words.
 ghost use Rattle.std.specs.Prelude.{◌≡◌, ◌+◌};
 ghost use Rattle.values.specs.Entry.{quality_number};
-ghost use Rattle.values.specs.declared.entry.Held.TheVariants.{Is};
+ghost use Rattle.std.specs.Prelude.{Some};
 ghost use Rattle.words.specs.Entry.{quality_from, entry_from, held_from, entry_words_of, held_words_of};
 
 use super::error::{error_from, error_words};
 use super::scalar::{int_of_word, word_of_int};
 use super::value::{value_from, value_words};
-use values::entry::{Entry, Held, Quality};
+use values::entry::{Entry, Quality};
 
 // held: 0 where there is no entry, and otherwise the quality's number and 1.
 #[repr(C)]
@@ -46,53 +46,43 @@ pub fn quality_word(q: Quality) -> u64
 pub fn entry_from(w: EntryWords) -> Entry
     ensures { result ≡ entry_from w }
 {
-    let value = value_from(w.kind, w.word);
-    let quality = quality_from(w.held);
-    let t = int_of_word(w.t);
-    let error = error_from(w.error, w.message);
     Entry {
-        value: value,
-        quality: quality,
-        t: t,
-        error: error,
+        value: value_from(w.kind, w.word),
+        quality: quality_from(w.held),
+        t: int_of_word(w.t),
+        error: error_from(w.error, w.message),
     }
 }
 
-pub fn held_from(w: EntryWords) -> Held
+pub fn held_from(w: EntryWords) -> Option<Entry>
     ensures { result ≡ held_from w }
 {
     if w.held == 0 {
-        return Held::None;
+        return None;
     }
-    let e = entry_from(w);
-    Held::Is(e)
+    Some(entry_from(w))
 }
 
 pub fn entry_words(e: Entry) -> EntryWords
-    ensures { (held_from result ≡ Is e) × (result ≡ entry_words_of e) }
+    ensures { (held_from result ≡ Some e) × (result ≡ entry_words_of e) }
 {
-    let v = e.value;
-    let value = value_words(v);
-    let q = e.quality;
-    let held = quality_word(q);
-    let t = word_of_int(e.t);
-    let f = e.error;
-    let error = error_words(f);
+    let value = value_words(e.value);
+    let error = error_words(e.error);
     EntryWords {
-        held: held,
+        held: quality_word(e.quality),
         kind: value.kind,
         word: value.word,
-        t: t,
+        t: word_of_int(e.t),
         error: error.kind,
         message: error.message,
     }
 }
 
-pub fn held_words(h: Held) -> EntryWords
+pub fn held_words(h: Option<Entry>) -> EntryWords
     ensures { (held_from result ≡ h) × (result ≡ held_words_of h) }
 {
     match h {
-        Held::None => EntryWords {
+        None => EntryWords {
             held: 0,
             kind: 0,
             word: 0,
@@ -100,6 +90,6 @@ pub fn held_words(h: Held) -> EntryWords
             error: 0,
             message: 0,
         },
-        Held::Is(e) => entry_words(e),
+        Some(e) => entry_words(e),
     }
 }

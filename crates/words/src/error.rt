@@ -3,7 +3,7 @@ ghost use Rattle.std.specs.Prelude.{◌≡◌, ◌+◌};
 ghost use Rattle.values.specs.Error.{kind_number};
 ghost use Rattle.words.specs.Error.{kind_from, error_from, error_words_of};
 
-use values::error::{Error, ErrorKind, TagError};
+use values::error::{ErrorKind, TagError};
 
 // kind: 0 for none, and otherwise the kind's number and 1.
 #[derive(Clone, Copy)]
@@ -35,36 +35,29 @@ fn kind_word(k: ErrorKind) -> u64
     }
 }
 
-pub fn error_from(kind: u64, message: u64) -> Error
+pub fn error_from(kind: u64, message: u64) -> Option<TagError>
     ensures { result ≡ error_from kind message }
 {
     if kind == 0 {
-        return Error::None;
+        return None;
     }
-    let k = kind_from(kind);
-    let m = (message % 0x1_0000_0000) as u32;
-    Error::Is(TagError {
-        kind: k,
-        message: m,
+    Some(TagError {
+        kind: kind_from(kind),
+        message: (message % 0x1_0000_0000) as u32,
     })
 }
 
-pub fn error_words(e: Error) -> ErrorWords
+pub fn error_words(e: Option<TagError>) -> ErrorWords
     ensures { (error_from result.kind result.message ≡ e) × (result ≡ error_words_of e) }
 {
     match e {
-        Error::None => ErrorWords {
+        None => ErrorWords {
             kind: 0,
             message: 0,
         },
-        Error::Is(x) => {
-            let k = x.kind;
-            let kind = kind_word(k);
-            let message = x.message as u64;
-            ErrorWords {
-                kind: kind,
-                message: message,
-            }
-        }
+        Some(x) => ErrorWords {
+            kind: kind_word(x.kind),
+            message: x.message as u64,
+        },
     }
 }

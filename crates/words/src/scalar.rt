@@ -7,7 +7,8 @@ ghost use Rattle.std.specs.Int.{w64};
 
 // The bits of a float; of a NaN those of the one quiet NaN.
 pub fn word_of_float(x: f64) -> u64
-    ensures { result ≡ to_bits binary64 x }
+    ensures bits { result ≡ to_bits binary64 x }
+    ensures back { of_bits binary64 result ≡ x }
 {
     if x != x {
         0x7ff8_0000_0000_0000
@@ -28,11 +29,11 @@ pub fn float_of_word(n: u64) -> f64
 
 // The bits of a signed integer.
 pub fn word_of_int(x: i64) -> u64
-    ensures { result ≡ of_z w64 x }
+    ensures bits { result ≡ of_z w64 x }
+    ensures back { to_z w64 result ≡ x }
 {
     if x < 0 {
-        let y = !x;
-        return !(y as u64);
+        return !(!x as u64);
     }
     x as u64
 }
@@ -44,9 +45,7 @@ pub fn int_of_word(n: u64) -> i64
     if n < 0x8000_0000_0000_0000 {
         return n as i64;
     }
-    let m = 0xffff_ffff_ffff_ffff - n;
-    let y = m as i64;
-    !y
+    !((0xffff_ffff_ffff_ffff - n) as i64)
 }
 
 pub fn word_of_flag(b: bool) -> u64

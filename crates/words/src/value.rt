@@ -21,14 +21,14 @@ pub fn value_words(v: Value) -> ValueWords
             kind: 1,
             word: b as u64,
         },
-        Value::Int(n) => {
-            let w = word_of_int(n);
-            ValueWords { kind: 2, word: w }
-        }
-        Value::Float(x) => {
-            let w = word_of_float(x);
-            ValueWords { kind: 3, word: w }
-        }
+        Value::Int(n) => ValueWords {
+            kind: 2,
+            word: word_of_int(n),
+        },
+        Value::Float(x) => ValueWords {
+            kind: 3,
+            word: word_of_float(x),
+        },
     }
 }
 

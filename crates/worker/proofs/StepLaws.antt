@@ -6,13 +6,12 @@ use Prim.Native.Nat.{ℕ}
 use lib.Dec.{eqb}
 use lib.Ieee.{binary64, le, round as rounded}
 use lib.ListN.{length, take}
+use Rattle.std.specs.Prelude.{Option, Some, None}
 use Rattle.values.specs.declared.value.Value.TheVariants.{Null}
 use Rattle.rounds.specs.Round.{Round}
 use Rattle.heads.specs.Version.{is_reloaded}
 use Rattle.queue.specs.Queue.{popped}
 use Rattle.writes.specs.ReadBack.{read_back_tags, read_back_first, kept_back}
-use Rattle.queue.specs.declared.Popped.{Popped}
-use Rattle.queue.specs.declared.Popped.TheVariants.{Nothing, Is}
 use Rattle.heads.specs.Link.{is_state, with_attempt}
 use Rattle.heads.specs.Stats.{read_stats, tail_stats, reconnected, reloaded}
 use Rattle.heads.specs.declared.link.State.TheVariants.{Connecting, Connected, Disconnected}
@@ -32,6 +31,7 @@ use Rattle.cycles.specs.Polling.{elapsed, remaining, polls, waiting, idle, tail,
 use Rattle.step_checks.specs.Awaited.{Answer, step_check}
 use Rattle.step_answers.specs.Answers.{connected, reconnecting, opened, number_of, versioned, open_version, round_version, results, descriptions, written, read_back, back_applied, waited, backed_off, connect_answered}
 use Rattle.worker.specs.Steps.{taken, handled, clocked, stepped, step}
+use Rattle.queue.specs.declared.Write.{Write as Queued}
 
 -- what is told is no refusal
 pub record Plain (T : Told) : Type 0 where
@@ -87,10 +87,10 @@ resume_plain W at Tail = tail_plain W at
 resume_plain W at Idle = idle_plain W at
 resume_plain W at End = told _ refl
 
-of_plain : (W : Worker) (at : At) (after : After) (w : Popped) → Plain (writing_of W at after w)
+of_plain : (W : Worker) (at : At) (after : After) (w : Option Queued) → Plain (writing_of W at after w)
 unfolding writing_of
-of_plain W at after Nothing = resume_plain W at after
-of_plain W at after (Is w) = told _ refl
+of_plain W at after None = resume_plain W at after
+of_plain W at after (Some w) = told _ refl
 
 pub writing_plain : (W : Worker) (at : At) (after : After) → Plain (writing W at after)
 writing_plain W at after = of_plain W at after (popped W.board.queue)

@@ -33,8 +33,7 @@ fn taken(board: &mut [u8], out: &mut [u8], e: Engine, p: Phase, clock: f64, wall
     requires { IsBoard board.old }
     ensures { Done (taken p (worker e (board_in board.old)) (at clock wall)) result board.new out.old out.new }
 {
-    let progress = e.progress;
-    let after = progress.after;
+    let after = e.progress.after;
     match p {
         Phase::OpenFailedTold => phased(e, Phase::OpenVersion, Reply::listed(Reply::VERSION, 0)),
         Phase::OpenMetaTold => connected(e),
@@ -97,12 +96,12 @@ pub fn step(
 {
     let n = step_check(board, e, a, list, clock, wall, out.len());
     if n != 0 {
-        let r = Reply::refused(n);
-        return Said { reply: r, head: e };
+        return Said {
+            reply: Reply::refused(n),
+            head: e,
+        };
     }
     let clocked = with_clock(e, clock);
-    let progress = e.progress;
-    let phase = progress.phase;
-    let s = handled(board, out, clocked, phase, a, list, clock, wall);
+    let s = handled(board, out, clocked, e.progress.phase, a, list, clock, wall);
     finish(board, out, s, clock, wall)
 }

@@ -37,18 +37,16 @@ pub fn keep_back(b: &mut [u8], results: &[u8])
 fn good_value(r: TagResult) -> Value
     ensures { result ≡ read_back_value r }
 {
-    let error = r.error;
-    let q = quality_of(error);
-    if is_good(q) {
-        return r.value;
+    if is_good(quality_of(r.error)) {
+        r.value
+    } else {
+        Value::Null
     }
-    Value::Null
 }
 
 // The value that a write is told to have left: that of the first result.
 pub fn read_back_value(results: &[u8]) -> Value
     ensures { result ≡ read_back_first results.now }
 {
-    let r = result_at(results, 0);
-    good_value(r)
+    good_value(result_at(results, 0))
 }

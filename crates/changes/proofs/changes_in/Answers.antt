@@ -7,26 +7,18 @@ use Rattle.changes.specs.declared.Change.{Change}
 use Rattle.changes.specs.Changes.{changes_from}
 use Rattle.changes.proofs.TakeLaws.{changes_next}
 use Rattle.changes.proofs.changes_in.Goals as goal
-use Rattle.changes.proofs.changes_in.Goals.{then-n-lt-MAX_NAMES, else-n-lt-MAX_NAMES}
 
 pub loop-i-init : goal.loop-i-init
 unfolding changes_from
-loop-i-init c = record {
-  passed = omega arith;
-  least = elim c.if-n-lt-MAX_NAMES.branch [ then-n-lt-MAX_NAMES w ↦ omega arith | else-n-lt-MAX_NAMES w ↦ omega arith ];
-  room = refl;
-  taken = refl;
-}
+loop-i-init c = record { room = refl; taken = refl }
 
 pub loop-i-preserved : goal.loop-i-preserved
 loop-i-preserved c =
     let l = c.loop-i in
     let cells = cells_in c.args.list.now in
-    let it : Change = c.change_in-c.result in
+    let it : Change = c.change_in.result in
     record {
-      passed = omega arith;
-      least = l.invariant.least;
       room = length-set l.items l.i it ∙ l.invariant.room;
       taken = take_more_set l.items l.i it (omega (arith, l.invariant.room)) ∙ ap (λ (r : List Change). r ++ (it ∷ [])) l.invariant.taken
-          ∙ ap (λ (x : Change). changes_from cells l.i ++ (x ∷ [])) c.change_in-c.ensures ∙ sym (changes_next cells l.i);
+          ∙ ap (λ (x : Change). changes_from cells l.i ++ (x ∷ [])) c.change_in.ensures ∙ sym (changes_next cells l.i);
     }

@@ -16,7 +16,4 @@ abbrev looked : Board → ℕ → ℕ → Board
 looked B n k = with_asked B (keep (test B) (take k (up_to n)))
 
 abbrev pub invariant-loop-k : goal.invariant-loop-k
-invariant-loop-k l = (l.k ≤ l.n) × ((length l.b ≡ length l.initial.b) × Holds l.b (looked (board_in l.initial.b) l.n l.k))
-
-abbrev pub decreases-loop-k : goal.decreases-loop-k
-decreases-loop-k l = l.n - l.k
+invariant-loop-k l = (length l.b ≡ length l.initial.b) × Holds l.b (looked (board_in l.initial.b) l.n l.k)

@@ -13,8 +13,5 @@ covered b found = take (found_count found) (board_in b).asked
 
 abbrev pub invariant-loop-i : goal.invariant-loop-i
 invariant-loop-i l =
-    (l.i ≤ l.n) × ((l.n ≡ length (covered l.initial.b l.found)) × ((length l.b ≡ length l.initial.b) × (IsBoard l.b
-    × (with_records (board_in l.b) (known_from (found_in l.found) l.i (drop l.i (covered l.initial.b l.found)) (board_in l.b).table.tags) ≡ with_records (board_in l.initial.b) (learnt l.found (board_in l.initial.b).asked (board_in l.initial.b).table.tags)))))
-
-abbrev pub decreases-loop-i : goal.decreases-loop-i
-decreases-loop-i l = l.n - l.i
+    (l.n ≡ length (covered l.initial.b l.found)) × ((length l.b ≡ length l.initial.b) × (IsBoard l.b
+    × (with_records (board_in l.b) (known_from (found_in l.found) l.i (drop l.i (covered l.initial.b l.found)) (board_in l.b).table.tags) ≡ with_records (board_in l.initial.b) (learnt l.found (board_in l.initial.b).asked (board_in l.initial.b).table.tags))))

@@ -15,39 +15,24 @@ use Rattle.descriptions.proofs.learn_none.Goals as goal
 abbrev none : ℕ → Description
 none i = Nothing
 
-pub loop-i-init : goal.loop-i-init
-loop-i-init c = (omega arith, (refl, (c.requires, refl)))
-
-pub overflow_add-i : goal.overflow_add-i
-overflow_add-i c = omega arith
-
-pub loop-i-smaller : goal.loop-i-smaller
-loop-i-smaller c = omega arith
-
 pub loop-i-preserved : goal.loop-i-preserved
 loop-i-preserved c =
     let a = c.args in
     let l = c.loop-i in
     let xs = (board_in a.b.now).asked in
-    let k = c.asked_at-k in
+    let k = c.asked_at in
     let put = c.put_description in
     let B = board_in l.b in
-    let same = l.invariant.1.1.1 in
+    let same = l.invariant.1.1 in
     let here : k.result ≡ get_or xs l.i 0 = k.ensures ∙ ap (λ (X : Board). get_or X.asked l.i 0) same in (
-      omega arith,
+      put.auto.b ∙ l.invariant.0,
       (
-        put.auto.b ∙ l.invariant.1.0,
-        (
-          put.ensures.still,
-          ap (λ (X : Board). with_records X (known_from none (l.i + 1) (drop (l.i + 1) xs) X.table.tags)) put.ensures.board
-              ∙ ap (λ (z : List Tag). with_records B z) (sym (known_more none xs l.i B.table.tags k.result Nothing (omega arith) here refl))
-              ∙ same,
-        ),
+        put.ensures.still,
+        ap (λ (X : Board). with_records X (known_from none (l.i + 1) (drop (l.i + 1) xs) X.table.tags)) put.ensures.board
+            ∙ ap (λ (z : List Tag). with_records B z) (sym (known_more none xs l.i B.table.tags k.result Nothing (omega arith) here refl))
+            ∙ same,
       ),
     )
-
-pub shape_of-b : goal.shape_of-b
-shape_of-b c = c.loop-i.invariant.1.0
 
 pub returns : goal.returns
 returns c =
@@ -55,8 +40,8 @@ returns c =
     let l = c.loop-i in
     let B = board_in l.b in
     record {
-      still = l.invariant.1.1.0;
+      still = l.invariant.1.0;
       board =
           ap (λ (z : List Tag). with_records B z) (sym (known_end none (board_in a.b.now).asked l.i B.table.tags (omega arith)))
-          ∙ l.invariant.1.1.1;
+          ∙ l.invariant.1.1;
     }

@@ -13,8 +13,5 @@ none i = Nothing
 
 abbrev pub invariant-loop-i : goal.invariant-loop-i
 invariant-loop-i l =
-    (l.i ≤ l.n) × ((length l.b ≡ length l.initial.b) × (IsBoard l.b
-    × (with_records (board_in l.b) (known_from none l.i (drop l.i (board_in l.initial.b).asked) (board_in l.b).table.tags) ≡ with_records (board_in l.initial.b) (learnt_none (board_in l.initial.b).asked (board_in l.initial.b).table.tags))))
-
-abbrev pub decreases-loop-i : goal.decreases-loop-i
-decreases-loop-i l = l.n - l.i
+    (length l.b ≡ length l.initial.b) × (IsBoard l.b
+    × (with_records (board_in l.b) (known_from none l.i (drop l.i (board_in l.initial.b).asked) (board_in l.b).table.tags) ≡ with_records (board_in l.initial.b) (learnt_none (board_in l.initial.b).asked (board_in l.initial.b).table.tags)))

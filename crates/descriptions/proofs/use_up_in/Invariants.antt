@@ -7,7 +7,4 @@ use Rattle.descriptions.specs.Descriptions.{unwanted}
 use Rattle.descriptions.proofs.use_up_in.Given as goal
 
 abbrev pub invariant-loop-k : goal.invariant-loop-k
-invariant-loop-k l = (l.k ≤ l.n) × ((length l.t ≡ length l.initial.t) × (table_in l.t ≡ mapped unwanted l.k (table_in l.initial.t)))
-
-abbrev pub decreases-loop-k : goal.decreases-loop-k
-decreases-loop-k l = l.n - l.k
+invariant-loop-k l = (length l.t ≡ length l.initial.t) × (table_in l.t ≡ mapped unwanted l.k (table_in l.initial.t))

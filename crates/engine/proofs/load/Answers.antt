@@ -5,4 +5,4 @@ use Rattle.engine.proofs.load.Goals as goal
 
 pub returns : goal.returns
 unfolding engine_in
-returns c = c.engine_from.ensures ∙ ap engine_from c.row-w.ensures
+returns c = c.engine_from.ensures ∙ ap engine_from c.row.ensures

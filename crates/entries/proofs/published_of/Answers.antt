@@ -11,4 +11,4 @@ pub returns : goal.returns
 unfolding tag_from
 returns c =
     let a = c.args in
-    c.held_from.ensures ∙ ap (λ (w : EntryWords). held_from w) c.words_at-w.ensures ∙ sym (ap (λ (x : Tag). x.published) (table_at a.t.now a.k))
+    c.held_from.ensures ∙ ap (λ (w : EntryWords). held_from w) c.words_at.ensures ∙ sym (ap (λ (x : Tag). x.published) (table_at a.t.now a.k))

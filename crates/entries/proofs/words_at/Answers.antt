@@ -2,5 +2,4 @@
 use Rattle.entries.proofs.words_at.Goals as goal
 
 pub returns : goal.returns
-returns c =
-    simp (c.row_cell-message.ensures, c.row_cell-error.ensures, c.row_cell-time.ensures, c.row_cell-word.ensures, c.row_cell-kind.ensures, c.row_cell-held.ensures)
+returns c = simp (c.row_cell-6.ensures, c.row_cell-5.ensures, c.row_cell-4.ensures, c.row_cell-3.ensures, c.row_cell-2.ensures, c.row_cell.ensures)

@@ -9,4 +9,4 @@ pub returns : goal.returns
 unfolding tag_from
 returns c =
     let a = c.args in
-    rw (c.description_from.ensures, c.row_cell-n.ensures) (sym (ap (λ (x : Tag). x.description) (table_at a.t.now a.k)))
+    rw (c.description_from.ensures, c.row_cell.ensures) (sym (ap (λ (x : Tag). x.description) (table_at a.t.now a.k)))

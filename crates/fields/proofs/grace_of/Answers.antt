@@ -9,4 +9,4 @@ pub returns : goal.returns
 unfolding tag_from
 returns c =
     let a = c.args in
-    rw (c.grace_from.ensures, c.row_cell-after.ensures, c.row_cell-deadline.ensures, c.row_cell-on.ensures) (sym (ap (λ (x : Tag). x.grace) (table_at a.t.now a.k)))
+    rw (c.grace_from.ensures, c.row_cell-3.ensures, c.row_cell-2.ensures, c.row_cell.ensures) (sym (ap (λ (x : Tag). x.grace) (table_at a.t.now a.k)))

@@ -13,5 +13,5 @@ returns c =
     let a = c.args in
     let t = a.t.now in
     let w = get_or (rows_in t) a.k no_row in
-    table_put t c.put_row_cell.new.s (set w 8 c.word_of_flag-flag.result) a.k c.put_row_cell.ensures
-    ∙ ap (set (table_in t) a.k) (added_put w (row_long t a.k) c.word_of_flag-flag.result ∙ rw (c.word_of_flag-flag.ensures, ← (table_at t a.k)))
+    table_put t c.put_row_cell.new.s (set w 8 c.word_of_flag.result) a.k c.put_row_cell.ensures
+    ∙ ap (set (table_in t) a.k) (added_put w (row_long t a.k) c.word_of_flag.result ∙ rw (c.word_of_flag.ensures, ← (table_at t a.k)))

@@ -13,5 +13,5 @@ returns c =
     let a = c.args in
     let t = a.t.now in
     let w = get_or (rows_in t) a.k no_row in
-    table_put t c.put_row_cell.new.s (set w 10 c.description_word-n.result) a.k c.put_row_cell.ensures
-    ∙ ap (set (table_in t) a.k) (description_put w (row_long t a.k) c.description_word-n.result ∙ rw (c.description_word-n.ensures, ← (table_at t a.k)))
+    table_put t c.put_row_cell.new.s (set w 10 c.description_word.result) a.k c.put_row_cell.ensures
+    ∙ ap (set (table_in t) a.k) (description_put w (row_long t a.k) c.description_word.result ∙ rw (c.description_word.ensures, ← (table_at t a.k)))

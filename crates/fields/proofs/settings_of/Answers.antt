@@ -9,4 +9,4 @@ pub returns : goal.returns
 unfolding tag_from
 returns c =
     let a = c.args in
-    rw (c.settings_from.ensures, c.row_cell-described.ensures, c.row_cell-rate.ensures, c.row_cell-group.ensures, c.row_cell-grouped.ensures, c.row_cell-band.ensures) (sym (ap (λ (x : Tag). x.settings) (table_at a.t.now a.k)))
+    rw (c.settings_from.ensures, c.row_cell-5.ensures, c.row_cell-4.ensures, c.row_cell-3.ensures, c.row_cell-2.ensures, c.row_cell.ensures) (sym (ap (λ (x : Tag). x.settings) (table_at a.t.now a.k)))

@@ -9,4 +9,4 @@ pub returns : goal.returns
 unfolding tag_from
 returns c =
     let a = c.args in
-    rw (c.timing_from.ensures, c.row_cell-retry.ensures, c.row_cell-missing.ensures, c.row_cell-last.ensures, c.row_cell-read.ensures) (sym (ap (λ (x : Tag). x.timing) (table_at a.t.now a.k)))
+    rw (c.timing_from.ensures, c.row_cell-4.ensures, c.row_cell-3.ensures, c.row_cell-2.ensures, c.row_cell.ensures) (sym (ap (λ (x : Tag). x.timing) (table_at a.t.now a.k)))

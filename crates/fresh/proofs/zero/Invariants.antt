@@ -1,11 +1,7 @@
 use mathlib.Core.Path.{◌≡◌}
-use Prim.Native.Nat.{◌≤◌, ◌-◌}
 use lib.ListN.{length, take}
 use Rattle.fresh.proofs.FreshLaws.{zeros}
 use Rattle.fresh.proofs.zero.Given as goal
 
 abbrev pub invariant-loop-i : goal.invariant-loop-i
-invariant-loop-i l = (l.i ≤ length l.s) × ((length l.s ≡ length l.initial.s) × (take l.i l.s ≡ zeros l.i))
-
-abbrev pub decreases-loop-i : goal.decreases-loop-i
-decreases-loop-i l = length l.s - l.i
+invariant-loop-i l = (length l.s ≡ length l.initial.s) × (take l.i l.s ≡ zeros l.i)

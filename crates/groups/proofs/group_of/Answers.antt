@@ -1,4 +1,3 @@
--- `groups::group_of` meets its contract.
 use mathlib.Core.Path.{sym, ◌∙◌}
 use native.Mathlib.Omega.{arith}
 use Rattle.groups.specs.Groups.{group_from}
@@ -14,5 +13,5 @@ pub returns : goal.returns
 unfolding group_from
 returns c =
     let a = c.args in
-    rw (c.float_of_word-before.ensures, c.cell-2.ensures, c.float_of_word-last.ensures, c.cell.ensures, c.cell-rate.ensures, c.cell-again.ensures, c.cell-read.ensures)
+    rw (c.time_from.ensures, c.time_from-2.ensures, c.cell.ensures, c.cell-2.ensures, c.cell-3.ensures, c.cell-4.ensures, c.cell-5.ensures)
     (sym (group_read a.s.now a.g (omega arith)))

@@ -4,9 +4,6 @@ use mathlib.Core.List.{List}
 use Prim.Native.Nat.{ℕ, ◌+◌, ◌*◌, ◌<◌}
 use native.Mathlib.Nat.{mod-eq_of_lt}
 use native.Mathlib.Omega.{arith}
-use lib.Dec.{T}
-use lib.Ieee.{binary64, fits, of_bits}
-use lib.Ieee.Bits.{of_bits-to_bits}
 use lib.ListN.{set}
 use Rattle.groups.specs.Groups.{groups_in}
 use Rattle.groups.proofs.Laws.{group_put, group_kept, group_coded}
@@ -25,24 +22,17 @@ returns c =
     let p3 = c.put_cell-3 in
     let p2 = c.put_cell-2 in
     let p1 = c.put_cell in
-    let before = c.word_of_float-before in
-    let last = c.word_of_float-last in
-    let again = c.word_of_flag-again in
-    let read = c.word_of_flag-read in
+    let last = c.time_words-last in
+    let before = c.time_words-before in
     let a = c.args in
     let s = a.s.now in
     let g = a.g in
     let x = a.x in
     let small : x.rate < 0x1_0000_0000 = search rules in
-    let fit_last : T (fits binary64 x.last) = search rules in
-    let fit_before : T (fits binary64 x.before) = search rules in
-    group_put s p5.new.s g read.result again.result x.rate last.result before.result
+    group_put s p5.new.s g last.result.known before.result.known x.rate last.result.word before.result.word
     (p5.auto.s ∙ p4.auto.s ∙ p3.auto.s ∙ p2.auto.s ∙ p1.auto.s) (omega (arith, c.if-s-g.false))
-    (p5.ensures ∙ ap (λ (cs : List ℕ). set cs (8 * g + 4) before.result)
-    (p4.ensures ∙ ap (λ (cs : List ℕ). set cs (8 * g + 3) last.result)
+    (p5.ensures ∙ ap (λ (cs : List ℕ). set cs (8 * g + 4) before.result.word)
+    (p4.ensures ∙ ap (λ (cs : List ℕ). set cs (8 * g + 3) last.result.word)
     (p3.ensures ∙ ap (λ (cs : List ℕ). set cs (8 * g + 2) x.rate)
-    (p2.ensures ∙ ap (λ (cs : List ℕ). set cs (8 * g + 1) again.result) p1.ensures))))
-    ∙ ap (set (groups_in s) g)
-    (group_coded x _ _ _ _ _ read.ensures again.ensures (mod-eq_of_lt small)
-    (ap (of_bits binary64) last.ensures ∙ of_bits-to_bits binary64 x.last fit_last)
-    (ap (of_bits binary64) before.ensures ∙ of_bits-to_bits binary64 x.before fit_before))
+    (p2.ensures ∙ ap (λ (cs : List ℕ). set cs (8 * g + 1) before.result.known) p1.ensures))))
+    ∙ ap (set (groups_in s) g) (group_coded x _ _ _ _ _ (mod-eq_of_lt small) last.ensures before.ensures)

@@ -9,4 +9,4 @@ pub returns : goal.returns
 returns c =
     let a = c.args in
     c.put_group.ensures
-    ∙ ap (set (groups_in a.s.now) a.g) (c.read-y.ensures ∙ ap (λ (x : Group). group_read x a.rate a.at a.first) c.group_of-x.ensures)
+    ∙ ap (set (groups_in a.s.now) a.g) (c.read.ensures ∙ ap (λ (x : Group). group_read x a.rate a.at a.first) c.group_of-x.ensures)

@@ -18,25 +18,7 @@ returns-then-out-n c =
 
 pub loop-i-init : goal.loop-i-init
 loop-i-init c =
-    (omega arith, (refl, tags_none c.args.out.now))
-
-pub overflow_mul-p : goal.overflow_mul-p
-overflow_mul-p c = omega arith
-
-pub bounds-out-p : goal.bounds-out-p
-bounds-out-p c = omega arith
-
-pub overflow_add-out : goal.overflow_add-out
-overflow_add-out c = omega arith
-
-pub bounds-out-p-in-loop-i : goal.bounds-out-p-in-loop-i
-bounds-out-p-in-loop-i c = simp length-set (omega arith)
-
-pub overflow_add-i : goal.overflow_add-i
-overflow_add-i c = omega arith
-
-pub loop-i-smaller : goal.loop-i-smaller
-loop-i-smaller c = omega arith
+    (refl, tags_none c.args.out.now)
 
 pub loop-i-preserved : goal.loop-i-preserved
 loop-i-preserved c =
@@ -46,24 +28,17 @@ loop-i-preserved c =
     let out = a.out.now in
     let i = l.i in
     let k = c.at-k.result in (
-      omega arith,
-      (
-        length-set (set l.out (2 * i) (k % 256)) (2 * i + 1) (k / 0x100 % 256) ∙ length-set l.out (2 * i) (k % 256) ∙ l.invariant.1.0,
-        ap (λ (o : List ℕ). set (set o (2 * i) (k % 256)) (2 * i + 1) (k / 0x100 % 256)) l.invariant.1.1
-            ∙ ap (λ (n : ℕ). set (set (over_bytes out (tag_bytes (take i xs))) (2 * i) (n % 256)) (2 * i + 1) (n / 0x100 % 256)) c.at-k.ensures
-            ∙ tag_next out xs i (omega arith) (omega arith),
-      ),
+      length-set (set l.out (2 * i) (k % 256)) (2 * i + 1) (k / 0x100 % 256) ∙ length-set l.out (2 * i) (k % 256) ∙ l.invariant.0,
+      ap (λ (o : List ℕ). set (set o (2 * i) (k % 256)) (2 * i + 1) (k / 0x100 % 256)) l.invariant.1
+          ∙ ap (λ (n : ℕ). set (set (over_bytes out (tag_bytes (take i xs))) (2 * i) (n % 256)) (2 * i + 1) (n / 0x100 % 256)) c.at-k.ensures
+          ∙ tag_next out xs i (omega arith) (omega arith),
     )
-
-pub shape_of-out : goal.shape_of-out
-shape_of-out c =
-    c.loop-i.invariant.1.0
 
 pub returns : goal.returns
 returns c =
     let a = c.args in
     let l = c.loop-i in
     let xs = list_in a.list.now in
-    l.invariant.1.1
+    l.invariant.1
     ∙ ap (λ (ks : List ℕ). over_bytes a.out.now (tag_bytes ks)) (take_all l.i xs (omega arith))
     ∙ sym (all_fits a.out.now (tag_bytes xs) (omega (arith, length_tags xs)))

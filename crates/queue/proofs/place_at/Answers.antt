@@ -14,4 +14,4 @@ pub returns : goal.returns
 unfolding write_from
 returns c =
     let a = c.args in
-    rw (c.value_from-value.ensures, c.cell-word.ensures, c.cell-kind.ensures, c.cell-tag.ensures) (sym (place_read a.q.now a.i (omega arith)))
+    rw (c.value_from.ensures, c.cell-3.ensures, c.cell-2.ensures, c.cell.ensures) (sym (place_read a.q.now a.i (omega arith)))

@@ -6,5 +6,5 @@ use Rattle.queue.proofs.queued.Goals as goal
 pub returns-then-n-most : goal.returns-then-n-most
 returns-then-n-most c = omega (arith, length-queue c.args.q.now, c.cell-n.ensures, c.room_of-most.ensures)
 
-pub returns : goal.returns
-returns c = omega (arith, length-queue c.args.q.now, c.cell-n.ensures, c.room_of-most.ensures)
+pub returns-else-n-most : goal.returns-else-n-most
+returns-else-n-most c = omega (arith, length-queue c.args.q.now, c.cell-n.ensures, c.room_of-most.ensures)

@@ -3,15 +3,9 @@ use Rattle.std.proofs.Common.{◌<◌, eqb, length, ◌∙◌, arith}
 use borrow.Author.Tests.{eq-eqb, ne_eqb}
 use Rattle.tags.specs.Lists.{list_in}
 use Rattle.tags.proofs.ListLaws.{list_half, list_at, list_short}
-use Rattle.removal.proofs.RemoveLaws.{one_hit, placing_none, placing_yes, placing_no, placing_all}
+use Rattle.removal.proofs.RemoveLaws.{one_hit, placing_yes, placing_no}
 use Rattle.removal.proofs.places_of.Goals as goal
 use Rattle.removal.proofs.places_of.Goals.{else-same, then-same}
-
-pub loop-i-init : goal.loop-i-init
-loop-i-init c = (omega arith, placing_none c.args.k (list_in c.args.s.now))
-
-pub overflow_add-i : goal.overflow_add-i
-overflow_add-i c = omega arith
 
 pub half-requires : goal.half-requires
 half-requires c = list_half c.args.s.now c.loop-i.i (omega arith)
@@ -24,18 +18,6 @@ overflow_add-hits c =
 pub overflow_cast-here : goal.overflow_cast-here
 overflow_cast-here c = omega (arith, list_short c.args.s.now)
 
-pub overflow_add-i-in-loop-i : goal.overflow_add-i-in-loop-i
-overflow_add-i-in-loop-i c = omega arith
-
-pub loop-i-smaller : goal.loop-i-smaller
-loop-i-smaller c = omega arith
-
-pub returns : goal.returns
-returns c =
-    let a = c.args in
-    let l = c.loop-i in
-    placing_all a.k (list_in a.s.now) l.i l.hits l.sum l.invariant.1 (omega arith)
-
 pub loop-i-preserved : goal.loop-i-preserved
 loop-i-preserved c =
     let a = c.args in
@@ -44,7 +26,5 @@ loop-i-preserved c =
     let x = c.half in
     let h : l.i < length xs = omega arith in
     let small : l.i < 65536 = omega (arith, list_short a.s.now) in
-    let read = x.ensures ∙ list_at a.s.now l.i h in (
-      omega arith,
-      elim c.if-same.branch [ then-same w ↦ rw (w.here-is) (placing_yes a.k xs l.i l.hits l.sum l.invariant.1 h small x.result read (eq-eqb _ _ w.if-same.true)) | else-same w ↦ rw (w.here-is) (placing_no a.k xs l.i l.hits l.sum l.invariant.1 h small x.result read (ne_eqb _ _ w.if-same.false)) ],
-    )
+    let read = x.ensures ∙ list_at a.s.now l.i h in
+    elim c.if-same.branch [ then-same w ↦ rw (w.here-is) (placing_yes a.k xs l.i l.hits l.sum l.invariant h small x.result read (eq-eqb _ _ w.if-same.true)) | else-same w ↦ rw (w.here-is) (placing_no a.k xs l.i l.hits l.sum l.invariant h small x.result read (ne_eqb _ _ w.if-same.false)) ]

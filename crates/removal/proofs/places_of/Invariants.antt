@@ -1,10 +1,6 @@
-use Rattle.std.proofs.Common.{◌-◌, ◌≤◌}
 use Rattle.tags.specs.Lists.{list_in}
 use Rattle.removal.proofs.RemoveLaws.{Placing}
 use Rattle.removal.proofs.places_of.Given as goal
 
 abbrev pub invariant-loop-i : goal.invariant-loop-i
-invariant-loop-i l = (l.i ≤ l.n) × Placing l.k (list_in l.s) l.i l.hits l.sum
-
-abbrev pub decreases-loop-i : goal.decreases-loop-i
-decreases-loop-i l = l.n - l.i
+invariant-loop-i l = Placing l.k (list_in l.s) l.i l.hits l.sum

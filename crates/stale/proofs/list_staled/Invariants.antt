@@ -16,7 +16,4 @@ test t k = is_staled (get_or (table_in t) k fresh_tag)
 
 abbrev pub invariant-loop-k : goal.invariant-loop-k
 invariant-loop-k l =
-    (l.k ≤ l.n) × ((l.n ≡ min l.rows 65536) × ((length l.changes ≡ length l.initial.changes) × (list_in l.changes ≡ take (room l.initial.changes) (keep (test l.table) (take l.k (up_to l.n))))))
-
-abbrev pub decreases-loop-k : goal.decreases-loop-k
-decreases-loop-k l = l.n - l.k
+    (l.n ≡ min l.rows 65536) × ((length l.changes ≡ length l.initial.changes) × (list_in l.changes ≡ take (room l.initial.changes) (keep (test l.table) (take l.k (up_to l.n)))))

@@ -7,7 +7,4 @@ use mathlib.Core.Path.{◌≡◌}
 use Rattle.stale.proofs.stale_all.Given as goal
 
 abbrev pub invariant-loop-k : goal.invariant-loop-k
-invariant-loop-k l = (l.k ≤ l.n) × ((length l.table ≡ length l.initial.table) × (table_in l.table ≡ mapped tag_stale l.k (table_in l.initial.table)))
-
-abbrev pub decreases-loop-k : goal.decreases-loop-k
-decreases-loop-k l = l.n - l.k
+invariant-loop-k l = (length l.table ≡ length l.initial.table) × (table_in l.table ≡ mapped tag_stale l.k (table_in l.initial.table))

@@ -5,7 +5,7 @@ use mir.Val.{SFits}
 use borrow.Author.Rules.{rules}
 use Rattle.stale.proofs.stale_held.Goals as goal
 
-pub returns-in-Is : goal.returns-in-Is
-returns-in-Is c =
-    let fit : SFits w64 c.in-Is.e.t = search rules in
-    simp (c.in-Is.is, to_z-of_z fit)
+pub returns-in-Some : goal.returns-in-Some
+returns-in-Some c =
+    let fit : SFits w64 c.in-Some.e.t = search rules in
+    simp (c.in-Some.is, to_z-of_z fit)

@@ -31,7 +31,7 @@ loop-i-init c =
     let a = c.args in
     let F = facts a.t.now a.order.now a.configured.now a.groups.now a.recorded.now in
     let xs = all a.configured.now a.recorded.now in
-    (omega arith, (sym (ap length (firsts_none xs)), (refl, stats_none F a.out.now xs)))
+    (sym (ap length (firsts_none xs)), (refl, stats_none F a.out.now xs))
 
 pub overflow_mul-done : goal.overflow_mul-done
 overflow_mul-done c =
@@ -45,16 +45,6 @@ overflow_add-done c =
     let xs = all a.configured.now a.recorded.now in
     omega (arith, firsts_short (take l.i xs), length-take l.i xs)
 
-pub overflow_add-i : goal.overflow_add-i
-overflow_add-i c = omega arith
-
-pub loop-i-smaller : goal.loop-i-smaller
-loop-i-smaller c = omega arith
-
-pub shape_of-out : goal.shape_of-out
-shape_of-out c =
-    c.loop-i.invariant.1.1.0
-
 pub loop-i-preserved : goal.loop-i-preserved
 loop-i-preserved c =
     let a = c.args in
@@ -64,27 +54,25 @@ loop-i-preserved c =
     let f = stat_cells F in
     let out = a.out.now in
     let i = l.i in
-    let first = sym c.is_first.ensures in (
-      omega arith,
-      elim c.if-is_first.branch [
-        | then-is_first w ↦ (
-          w.done-is ∙ ap (λ (n : ℕ). n + 1) l.invariant.1.0 ∙ sym (length_yes xs i (omega arith) (first ∙ w.if-is_first.true)),
-          (
-            ap length w.out-is ∙ w.put_group_stat.auto.out ∙ l.invariant.1.1.0,
-            w.out-is ∙ w.put_group_stat.ensures
-                ∙ ap (λ (o : List ℕ). record_put o (5 * l.done) (f w.number_at-group.result)) l.invariant.1.1.1
-                ∙ ap (λ (d : ℕ). record_put (over_bytes out (cell_bytes (records f (firsts (take i xs))))) (5 * d) (f w.number_at-group.result)) l.invariant.1.0
-                ∙ ap (λ (k : ℕ). record_put (over_bytes out (cell_bytes (records f (firsts (take i xs))))) (5 * length (firsts (take i xs))) (f k)) w.number_at-group.ensures
-                ∙ stat_next F out xs i (omega arith) (first ∙ w.if-is_first.true) (omega arith),
-          ),
-        )
-        | else-is_first w ↦
-            let same = sym (firsts_no xs i (omega arith) (first ∙ w.if-is_first.false)) in (
-              w.done-is ∙ l.invariant.1.0 ∙ ap length same,
-              (ap length w.out-is ∙ l.invariant.1.1.0, w.out-is ∙ l.invariant.1.1.1 ∙ ap (λ (ks : List ℕ). over_bytes out (cell_bytes (records f ks))) same),
-            )
-      ],
-    )
+    let first = sym c.is_first.ensures in
+    elim c.if-is_first.branch [
+      | then-is_first w ↦ (
+        w.done-is ∙ ap (λ (n : ℕ). n + 1) l.invariant.0 ∙ sym (length_yes xs i (omega arith) (first ∙ w.if-is_first.true)),
+        (
+          ap length w.out-is ∙ w.put_group_stat.auto.out ∙ l.invariant.1.0,
+          w.out-is ∙ w.put_group_stat.ensures
+              ∙ ap (λ (o : List ℕ). record_put o (5 * l.done) (f w.number_at.result)) l.invariant.1.1
+              ∙ ap (λ (d : ℕ). record_put (over_bytes out (cell_bytes (records f (firsts (take i xs))))) (5 * d) (f w.number_at.result)) l.invariant.0
+              ∙ ap (λ (k : ℕ). record_put (over_bytes out (cell_bytes (records f (firsts (take i xs))))) (5 * length (firsts (take i xs))) (f k)) w.number_at.ensures
+              ∙ stat_next F out xs i (omega arith) (first ∙ w.if-is_first.true) (omega arith),
+        ),
+      )
+      | else-is_first w ↦
+          let same = sym (firsts_no xs i (omega arith) (first ∙ w.if-is_first.false)) in (
+            w.done-is ∙ l.invariant.0 ∙ ap length same,
+            (ap length w.out-is ∙ l.invariant.1.0, w.out-is ∙ l.invariant.1.1 ∙ ap (λ (ks : List ℕ). over_bytes out (cell_bytes (records f ks))) same),
+          )
+    ]
 
 pub returns : goal.returns
 returns c =
@@ -97,7 +85,7 @@ returns c =
     record {
       value = c.group_count-n.ensures ∙ sym (told-all F out (omega arith));
       out_after =
-          l.invariant.1.1.1
+          l.invariant.1.1
           ∙ ap (λ (ks : List ℕ). over_bytes out (cell_bytes (records (stat_cells F) (firsts ks)))) (take_all l.i xs (omega arith))
           ∙ sym (cells_fit out (group_stats F) (omega arith));
     }

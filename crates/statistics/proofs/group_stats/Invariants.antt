@@ -1,6 +1,6 @@
 use mathlib.Core.Path.{◌≡◌}
 use mathlib.Core.List.{List}
-use Prim.Native.Nat.{ℕ, ◌≤◌, ◌-◌}
+use Prim.Native.Nat.{ℕ}
 use lib.ListN.{length, take}
 use Rattle.tags.specs.Lists.{list_in}
 use Rattle.settings.specs.Configured.{configured_in}
@@ -14,8 +14,5 @@ all configured recorded = named (configured_in configured) (list_in recorded)
 
 abbrev pub invariant-loop-i : goal.invariant-loop-i
 invariant-loop-i l =
-    (l.i ≤ l.m) × ((l.done ≡ length (firsts (take l.i (all l.configured l.recorded)))) × ((length l.out ≡ length l.initial.out)
-    × (l.out ≡ over_bytes l.initial.out (cell_bytes (records (stat_cells (facts l.t l.order l.configured l.groups l.recorded)) (firsts (take l.i (all l.configured l.recorded))))))))
-
-abbrev pub decreases-loop-i : goal.decreases-loop-i
-decreases-loop-i l = l.m - l.i
+    (l.done ≡ length (firsts (take l.i (all l.configured l.recorded)))) × ((length l.out ≡ length l.initial.out)
+    × (l.out ≡ over_bytes l.initial.out (cell_bytes (records (stat_cells (facts l.t l.order l.configured l.groups l.recorded)) (firsts (take l.i (all l.configured l.recorded)))))))

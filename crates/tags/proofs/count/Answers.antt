@@ -9,5 +9,5 @@ returns-then-size-eq0 c = omega (arith, length_list c.args.s.now)
 pub returns-then-n-places : goal.returns-then-n-places
 returns-then-n-places c = omega (arith, length_list c.args.s.now)
 
-pub returns : goal.returns
-returns c = omega (arith, length_list c.args.s.now)
+pub returns-else-n-places : goal.returns-else-n-places
+returns-else-n-places c = omega (arith, length_list c.args.s.now)

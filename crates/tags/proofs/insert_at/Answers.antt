@@ -5,22 +5,10 @@ use native.Mathlib.Nat.{mod-eq_of_lt}
 use native.Mathlib.Omega.{arith}
 use lib.ListN.{length, get_or}
 use Rattle.memory.specs.Halves.{halves_in}
-use Rattle.tags.specs.Lists.{list_in, room}
+use Rattle.tags.specs.Lists.{list_in}
 use Rattle.memory.proofs.HalfLaws.{half_small}
-use Rattle.tags.proofs.ListLaws.{opened, opened_here, opening_none, opening_next, opening_put, opening_all, inserted_past, inserted_full}
+use Rattle.tags.proofs.ListLaws.{opened, opened_here, opening_none, opening_next, opening_put, opening_all}
 use Rattle.tags.proofs.insert_at.Goals as goal
-
-pub returns-then-n-p : goal.returns-then-n-p
-returns-then-n-p c =
-    let a = c.args in
-    let s = a.s.now in
-    sym (inserted_past (room s) a.p (a.k % 65536) (list_in s) (omega arith))
-
-pub returns-then-room_of-n : goal.returns-then-room_of-n
-returns-then-room_of-n c =
-    let a = c.args in
-    let s = a.s.now in
-    sym (inserted_full (room s) a.p (a.k % 65536) (list_in s) (omega arith) (omega arith))
 
 pub loop-i-init : goal.loop-i-init
 loop-i-init c =
@@ -28,24 +16,6 @@ loop-i-init c =
     let s = a.s.now in
     let inside : a.p ≤ length (list_in s) = omega (arith, c.count-n.ensures) in
     (omega arith, (omega arith, (refl, (sym (opened_here (list_in s) a.p (a.k % 65536) inside), opening_none s a.p (a.k % 65536) inside))))
-
-pub overflow_add-i : goal.overflow_add-i
-overflow_add-i c = omega arith
-
-pub half-next-requires : goal.half-next-requires
-half-next-requires c = omega arith
-
-pub overflow_add-i-in-loop-i : goal.overflow_add-i-in-loop-i
-overflow_add-i-in-loop-i c = omega arith
-
-pub put_half-requires : goal.put_half-requires
-put_half-requires c = omega arith
-
-pub overflow_add-i-in-loop-i-2 : goal.overflow_add-i-in-loop-i-2
-overflow_add-i-in-loop-i-2 c = omega arith
-
-pub loop-i-smaller : goal.loop-i-smaller
-loop-i-smaller c = omega arith
 
 pub loop-i-preserved : goal.loop-i-preserved
 loop-i-preserved c =
@@ -70,15 +40,6 @@ loop-i-preserved c =
         ),
       ),
     )
-
-pub overflow_add-n : goal.overflow_add-n
-overflow_add-n c = omega arith
-
-pub put_half-requires-2 : goal.put_half-requires-2
-put_half-requires-2 c = omega arith
-
-pub overflow_add-n-2 : goal.overflow_add-n-2
-overflow_add-n-2 c = omega arith
 
 pub returns : goal.returns
 returns c =

@@ -1,9 +1,7 @@
 -- `tags::push` meets its contract.
-use mathlib.Core.Path.{sym}
 use Prim.Native.Nat.{◌%◌}
 use native.Mathlib.Omega.{arith}
-use Rattle.tags.specs.Lists.{list_in, room}
-use Rattle.tags.proofs.ListLaws.{push_put, pushed_full}
+use Rattle.tags.proofs.ListLaws.{push_put}
 use Rattle.tags.proofs.push.Goals as goal
 
 pub returns-then-n-room_of : goal.returns-then-n-room_of
@@ -13,9 +11,3 @@ returns-then-n-room_of c =
     let put = c.put_half in
     let put2 = c.put_half-then-n-room_of in
     push_put a.s.now put.new.s put2.new.s n.result (a.k % 65536) n.ensures (omega arith) put.ensures put2.ensures
-
-pub returns-else-n-room_of : goal.returns-else-n-room_of
-returns-else-n-room_of c =
-    let a = c.args in
-    let s = a.s.now in
-    sym (pushed_full (room s) (list_in s) (a.k % 65536) (omega arith))

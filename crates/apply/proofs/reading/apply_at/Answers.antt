@@ -6,14 +6,15 @@ use mir.ValLaws.{to_z-of_z}
 use borrow.Author.Tests.{eq-eqb, ne_eqb}
 use lib.Dec.{eqb}
 use lib.ListN.{get_or}
+use Rattle.std.specs.Prelude.{Option}
 use Rattle.values.specs.Entry.{merged}
-use Rattle.values.specs.declared.entry.Held.{Held}
 use Rattle.table.specs.Tag.{fresh_tag}
 use Rattle.table.specs.Table.{table_in}
 use Rattle.apply.specs.Apply.{is_stopped, applied_at, sent_at}
 use Rattle.apply.proofs.ApplyLaws.{applied_stopped, applied_on, known_on, new_on}
 use Rattle.apply.proofs.reading.apply_at.Goals as goal
-use Rattle.apply.proofs.reading.apply_at.Goals.{else-cache, then-cache+else-polled}
+use Rattle.apply.proofs.reading.apply_at.Goals.{else-cache-via-else-cache, else-cache-via-then-cache+else-polled}
+use Rattle.values.specs.declared.entry.Entry.{Entry}
 
 pub returns-then-tier_of-eq0 : goal.returns-then-tier_of-eq0
 unfolding applied_at sent_at
@@ -32,7 +33,7 @@ returns-then-polled c =
     let read : e.result ≡ merged x.cached a.r a.t =
     e.ensures
     ∙ ap (merged old.result a.r) (to_z-of_z w64 a.t c.ranges.t)
-    ∙ ap (λ (h : Held). merged h a.r a.t) old.ensures in
+    ∙ ap (λ (h : Option Entry). merged h a.r a.t) old.ensures in
     let one = c.mark in
     let two = c.cache in
     applied_stopped tags a.k a.r a.start a.t a.polled tiered old.result e.result (table_in one.new.table) (table_in two.new.table) old.ensures read one.ensures two.ensures.0
@@ -49,11 +50,11 @@ returns c =
     let read : e.result ≡ merged x.cached a.r a.t =
     e.ensures
     ∙ ap (merged old.result a.r) (to_z-of_z w64 a.t c.ranges.t)
-    ∙ ap (λ (h : Held). merged h a.r a.t) old.ensures in
+    ∙ ap (λ (h : Option Entry). merged h a.r a.t) old.ensures in
     let one = c.mark in
     let two = c.cache in
     let three = c.publish in
     let on : is_stopped a.polled old.result e.result ≡ false =
-    elim c.if-cache.branch [ then-cache+else-polled w ↦ known_on a.polled _ w.if-polled.false | else-cache w ↦ new_on a.polled _ (sym two.ensures.1 ∙ w.if-cache.false) ] in
+    elim c.else-cache.branch [ else-cache-via-then-cache+else-polled w ↦ known_on a.polled _ w.if-polled.false | else-cache-via-else-cache w ↦ new_on a.polled _ (sym two.ensures.1 ∙ w.if-cache.false) ] in
     applied_on tags a.k a.r a.start a.t a.polled tiered old.result e.result (table_in one.new.table) (table_in two.new.table) old.ensures read one.ensures two.ensures.0
     (table_in three.new.table) three.result on three.ensures.0 three.ensures.1

@@ -5,6 +5,6 @@ use Rattle.board.proofs.parts.asked_of.Goals as goal
 
 pub returns : goal.returns
 returns c =
-    let from = c.asked_start-start in
-    let to = c.keys_start-end in
+    let from = c.asked_start in
+    let to = c.keys_start in
     part_lent asked c.args.b.now from.result to.result from.ensures to.ensures

@@ -6,5 +6,5 @@ use Rattle.board.proofs.parts.back_of.Goals as goal
 
 pub returns : goal.returns
 returns c =
-    let to = c.recorded_start-end in
+    let to = c.recorded_start in
     part_lent back c.args.b.now 0 to.result refl to.ensures

@@ -5,6 +5,6 @@ use Rattle.board.proofs.parts.configured_of.Goals as goal
 
 pub returns : goal.returns
 returns c =
-    let from = c.configured_start-start in
-    let to = c.queue_start-end in
+    let from = c.configured_start in
+    let to = c.queue_start in
     part_lent configured c.args.b.now from.result to.result from.ensures to.ensures

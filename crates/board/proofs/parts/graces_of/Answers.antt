@@ -5,6 +5,6 @@ use Rattle.board.proofs.parts.graces_of.Goals as goal
 
 pub returns : goal.returns
 returns c =
-    let from = c.graces_start-start in
-    let to = c.asked_start-end in
+    let from = c.graces_start in
+    let to = c.asked_start in
     part_lent graces c.args.b.now from.result to.result from.ensures to.ensures

@@ -5,6 +5,6 @@ use Rattle.board.proofs.parts.groups_of.Goals as goal
 
 pub returns : goal.returns
 returns c =
-    let from = c.groups_start-start in
-    let to = c.table_start-end in
+    let from = c.groups_start in
+    let to = c.table_start in
     part_lent groups c.args.b.now from.result to.result from.ensures to.ensures

@@ -5,6 +5,6 @@ use Rattle.board.proofs.parts.order_of.Goals as goal
 
 pub returns : goal.returns
 returns c =
-    let from = c.order_start-start in
-    let to = c.graces_start-end in
+    let from = c.order_start in
+    let to = c.graces_start in
     part_lent order c.args.b.now from.result to.result from.ensures to.ensures

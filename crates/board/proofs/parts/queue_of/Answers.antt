@@ -5,6 +5,6 @@ use Rattle.board.proofs.parts.queue_of.Goals as goal
 
 pub returns : goal.returns
 returns c =
-    let from = c.queue_start-start in
-    let to = c.groups_start-end in
+    let from = c.queue_start in
+    let to = c.groups_start in
     part_lent queue c.args.b.now from.result to.result from.ensures to.ensures

@@ -5,6 +5,6 @@ use Rattle.board.proofs.parts.recorded_of.Goals as goal
 
 pub returns : goal.returns
 returns c =
-    let from = c.recorded_start-start in
-    let to = c.configured_start-end in
+    let from = c.recorded_start in
+    let to = c.configured_start in
     part_lent recorded c.args.b.now from.result to.result from.ensures to.ensures

@@ -8,5 +8,5 @@ use Rattle.board.proofs.parts.words_of.Goals as goal
 pub returns : goal.returns
 returns c =
     let bs = c.args.b.now in
-    let from = c.words_start-start in
+    let from = c.words_start in
     part_lent words bs from.result (length bs) from.ensures (omega (arith, c.requires.0))

@@ -28,8 +28,8 @@ told clock wall fit e r x bs new out out' d = rw (← to_z-of_z fit) d
 pub returns-then-size_check-ne0 : goal.returns-then-size_check-ne0
 returns-then-size_check-ne0 c = alien_step _ _ _ _ (λ g. c.if-size_check-ne0.true (c.size_check.ensures ∙ g)) c.refused.ensures
 
-pub returns-then-r-ne0 : goal.returns-then-r-ne0
-returns-then-r-ne0 c =
+pub returns-then-s-ne0 : goal.returns-then-s-ne0
+returns-then-s-ne0 c =
     let a = c.args in
     let bs = a.mem.now in
     let out = a.out.now in
@@ -38,7 +38,7 @@ returns-then-r-ne0 c =
     let f = c.step-s in
     let fit : SFits w64 a.wall = search rules in
     refused-step bs f.new.mem out f.new.out f.result e.result (at a.clock a.wall) x (sym c.size_check.ensures ∙ c.if-size_check-ne0.false) e.ensures
-    (told a.clock a.wall fit e.result f.result x bs f.new.mem out f.new.out f.ensures) c.if-r-ne0.true (search rules)
+    (told a.clock a.wall fit e.result f.result x bs f.new.mem out f.new.out f.ensures) c.if-s-ne0.true (search rules)
 
 pub put_head-requires : goal.put_head-requires
 put_head-requires c = ap size_check c.step-s.auto.mem ∙ (sym c.size_check.ensures ∙ c.if-size_check-ne0.false)
@@ -53,4 +53,4 @@ returns c =
     let f = c.step-s in
     let fit : SFits w64 a.wall = search rules in
     done_step bs f.new.mem out f.new.out f.result e.result (at a.clock a.wall) x (sym c.size_check.ensures ∙ c.if-size_check-ne0.false) e.ensures
-    (told a.clock a.wall fit e.result f.result x bs f.new.mem out f.new.out f.ensures) c.put_head.new.mem c.if-r-ne0.false c.put_head.ensures (search rules)
+    (told a.clock a.wall fit e.result f.result x bs f.new.mem out f.new.out f.ensures) c.put_head.new.mem c.if-s-ne0.false c.put_head.ensures (search rules)

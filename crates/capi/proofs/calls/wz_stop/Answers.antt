@@ -20,5 +20,5 @@ returns c =
     done_call bs _ 0 _ (sym c.size_check.ensures ∙ c.if-size_check-ne0.false) refl
     (c.put_head.ensures
     ∙ ap (λ (x : Engine). worker x (worker_in bs).board)
-    (c.with_link-halted.ensures ∙ ap (λ (l : Link). with_link e.result l) c.stopped-link.ensures ∙ ap (λ (x : Engine). with_link x (stopped x.link)) e.ensures))
+    (c.with_link.ensures ∙ ap (λ (l : Link). with_link e.result l) c.stopped-link.ensures ∙ ap (λ (x : Engine). with_link x (stopped x.link)) e.ensures))
     (search rules)

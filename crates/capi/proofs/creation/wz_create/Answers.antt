@@ -41,5 +41,5 @@ returns c =
     let accepted = sym c.creation_check-n.ensures ∙ c.if-n-ne0.false in
     is_made (setup c.args.names.now c.args.ends.now c.args.options c.args.settings.now c.args.groups.now) c.args.mem.now c.if-count-eq0.false (omega arith) c.creation_check-n.result
     (c.if-mem-memory_size.false ∙ c.memory_size.ensures) c.creation_check-n.ensures _ c.if-n-ne0.false
-    (c.put_head.ensures ∙ ap₂ {C = Worker} worker c.fresh-fresh.ensures (c.create.ensures ∙ all-configured (setup c.args.names.now c.args.ends.now c.args.options c.args.settings.now c.args.groups.now) accepted))
+    (c.put_head.ensures ∙ ap₂ {C = Worker} worker c.fresh.ensures (c.create.ensures ∙ all-configured (setup c.args.names.now c.args.ends.now c.args.options c.args.settings.now c.args.groups.now) accepted))
     (search rules)

@@ -18,5 +18,5 @@ unfolding state_look
 returns c =
     let mem = c.args.mem.now in
     c.state_of.ensures
-    ∙ ap (λ (e : Engine). state_of e.link) c.head_of-e.ensures
+    ∙ ap (λ (e : Engine). state_of e.link) c.head_of.ensures
     ∙ sym (own mem (state_of (worker_in mem).head.link) (no_state not_an_engine) (sym c.size_check.ensures ∙ c.if-size_check-ne0.false))

@@ -18,5 +18,5 @@ unfolding stats_look
 returns c =
     let mem = c.args.mem.now in
     c.stats_of.ensures
-    ∙ ap (λ (e : Engine). stats_of e.stats) c.head_of-e.ensures
+    ∙ ap (λ (e : Engine). stats_of e.stats) c.head_of.ensures
     ∙ sym (own mem (stats_of (worker_in mem).head.stats) (no_stats not_an_engine) (sym c.size_check.ensures ∙ c.if-size_check-ne0.false))

@@ -23,5 +23,5 @@ returns c =
     let W = worker_in mem in
     let found = rw c.board_of.ensures.1 at c.tag.ensures in
     found
-    ∙ ap (λ (e : Engine). tag_found W.board e.count a.tag) c.head_of-e.ensures
+    ∙ ap (λ (e : Engine). tag_found W.board e.count a.tag) c.head_of.ensures
     ∙ sym (own mem (tag_found W.board W.head.count a.tag) (no_look not_an_engine) (sym c.size_check.ensures ∙ c.if-size_check-ne0.false))

@@ -14,18 +14,18 @@ use Rattle.replies.proofs.DoneLaws.{done_is, wrote_nothing}
 use Rattle.cycles.specs.Polling.{writing, checking}
 use Rattle.cycles.proofs.polling.checking.Goals as goal
 
-pub returns-then-p : goal.returns-then-p
+pub returns-then-e : goal.returns-then-e
 unfolding checking
-returns-then-p c =
+returns-then-e c =
     let a = c.args in
     let W = worker a.e (board_in a.board.now) in
     let t = at a.clock a.wall in
-    let test : a.e.progress.boundary ≡ true = c.if-p.true in
+    let test : a.e.progress.boundary ≡ true = c.if-e.true in
     done_is (asks W Version reply.version) (checking W t) c.phased.result a.board.now a.out.now a.out.now (simp test)
     (record {
       head_is = simp c.phased.ensures;
       board_is = refl;
-      reply_is = simp (c.phased.ensures, c.listed-r.ensures);
+      reply_is = simp (c.phased.ensures, c.listed.ensures);
       out_is = sym (wrote_nothing a.out.now);
       silent = λ h. refl;
     })
@@ -38,6 +38,6 @@ returns c =
     let t = at a.clock a.wall in
     let fit : SFits w64 a.wall = c.ranges.wall in
     let y = c.writing in
-    let test : a.e.progress.boundary ≡ false = c.if-p.false in
+    let test : a.e.progress.boundary ≡ false = c.if-e.false in
     done_is (writing W t Tail) (checking W t) y.result y.new.board a.out.now y.new.out (simp test)
     (subst (λ (z : ℤ). Done (writing W (at a.clock z) Tail) y.result y.new.board a.out.now y.new.out) (to_z-of_z fit) y.ensures)

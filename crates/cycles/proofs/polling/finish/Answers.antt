@@ -10,13 +10,13 @@ use Rattle.cycles.specs.Polling.{waiting, poll}
 use Rattle.cycles.proofs.PollingLaws.{stands, goes_on_lem, lastly_stands, lastly_waits}
 use Rattle.cycles.proofs.polling.finish.Goals as goal
 
-pub returns-then-said-ne-GO_ON : goal.returns-then-said-ne-GO_ON
-returns-then-said-ne-GO_ON c =
+pub returns-then-s-ne-GO_ON : goal.returns-then-s-ne-GO_ON
+returns-then-s-ne-GO_ON c =
     let a = c.args in
-    record { goes = λ T before d. stands T (at a.clock a.wall) a.s a.board.now before a.out.now c.if-said-ne-GO_ON.true d }
+    record { goes = λ T before d. stands T (at a.clock a.wall) a.s a.board.now before a.out.now c.if-s-ne-GO_ON.true d }
 
-pub returns-then-again-ne-GO_ON : goal.returns-then-again-ne-GO_ON
-returns-then-again-ne-GO_ON c =
+pub returns-then-t-ne-GO_ON : goal.returns-then-t-ne-GO_ON
+returns-then-t-ne-GO_ON c =
     let a = c.args in
     let t = at a.clock a.wall in
     let fit : SFits w64 a.wall = c.ranges.wall in
@@ -25,8 +25,8 @@ returns-then-again-ne-GO_ON c =
     let said = subst (λ (z : ℤ). Done (poll X (at a.clock z)) y.result y.new.board a.out.now y.new.out) (to_z-of_z fit) y.ensures in
     record {
       goes = λ T before d.
-          goes_on_lem T t a.s y.result a.board.now y.new.board before a.out.now y.new.out c.if-said-ne-GO_ON.false d
-          (lastly_stands (poll X t) t y.result y.new.board a.out.now y.new.out c.if-again-ne-GO_ON.true said);
+          goes_on_lem T t a.s y.result a.board.now y.new.board before a.out.now y.new.out c.if-s-ne-GO_ON.false d
+          (lastly_stands (poll X t) t y.result y.new.board a.out.now y.new.out c.if-t-ne-GO_ON.true said);
     }
 
 pub returns : goal.returns
@@ -39,7 +39,7 @@ returns c =
     let said = subst (λ (z : ℤ). Done (poll X (at a.clock z)) y.result y.new.board a.out.now y.new.out) (to_z-of_z fit) y.ensures in
     record {
       goes = λ T before d.
-          goes_on_lem T t a.s c.waiting.result a.board.now y.new.board before a.out.now y.new.out c.if-said-ne-GO_ON.false d
-          (lastly_waits (poll X t) t y.result c.waiting.result y.new.board a.out.now y.new.out c.if-again-ne-GO_ON.false said
+          goes_on_lem T t a.s c.waiting.result a.board.now y.new.board before a.out.now y.new.out c.if-s-ne-GO_ON.false d
+          (lastly_waits (poll X t) t y.result c.waiting.result y.new.board a.out.now y.new.out c.if-t-ne-GO_ON.false said
           (λ B. subst (λ (z : ℤ). Quietly (waiting (worker y.result.head B) (at a.clock z)) c.waiting.result B) (to_z-of_z fit) (c.waiting.ensures B)));
     }

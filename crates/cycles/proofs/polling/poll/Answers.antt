@@ -12,15 +12,15 @@ use Rattle.replies.proofs.DoneLaws.{done_is}
 use Rattle.cycles.specs.Polling.{writing, polled, round_at, poll}
 use Rattle.cycles.proofs.polling.poll.Goals as goal
 
-pub returns-then-link : goal.returns-then-link
+pub returns-then-e : goal.returns-then-e
 unfolding poll
-returns-then-link c =
+returns-then-e c =
     let a = c.args in
     let W = worker a.e (board_in a.board.now) in
     let t = at a.clock a.wall in
     let fit : SFits w64 a.wall = c.ranges.wall in
     let y = c.writing in
-    let test : a.e.link.stopping ≡ true = c.if-link.true in
+    let test : a.e.link.stopping ≡ true = c.if-e.true in
     done_is (writing W t End) (poll W t) y.result y.new.board a.out.now y.new.out (simp test)
     (subst (λ (z : ℤ). Done (writing W (at a.clock z) End) y.result y.new.board a.out.now y.new.out) (to_z-of_z fit) y.ensures)
 
@@ -32,6 +32,6 @@ returns c =
     let t = at a.clock a.wall in
     let fit : SFits w64 a.wall = c.ranges.wall in
     let y = c.polled in
-    let test : a.e.link.stopping ≡ false = c.if-link.false in
+    let test : a.e.link.stopping ≡ false = c.if-e.false in
     done_is (polled W t (round_at W t)) (poll W t) y.result y.new.board a.out.now y.new.out (simp test)
     (subst (λ (z : ℤ). Done (polled W (at a.clock z) (round_at W (at a.clock z))) y.result y.new.board a.out.now y.new.out) (to_z-of_z fit) y.ensures)

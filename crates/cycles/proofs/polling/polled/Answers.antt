@@ -41,7 +41,7 @@ returns-then-asked_count-eq0 c =
     let round = with_round a.e.progress a.clock R.tick R.boundary in
     let next : c.with_progress-next.result ≡ with_progress cycled round =
     c.with_progress-next.ensures
-    ∙ (ap (λ (e : Engine). with_progress e c.with_round-progress.result) (c.with_cycle-cycled.ensures ∙ ap (with_cycle a.e) p.ensures.cycle_is)
+    ∙ (ap (λ (e : Engine). with_progress e c.with_round-progress.result) (c.with_cycle.ensures ∙ ap (with_cycle a.e) p.ensures.cycle_is)
     ∙ ap (with_progress cycled) (c.with_round-progress.ensures
     ∙ (ap (λ (x : Float). with_round a.e.progress a.clock x p.result.boundary) p.ensures.tick_is ∙ ap (with_round a.e.progress a.clock R.tick) p.ensures.boundary_is))) in
     let after = with_worked W t R in
@@ -80,7 +80,7 @@ returns c =
     let round = with_round a.e.progress a.clock R.tick R.boundary in
     let next : c.with_progress-next.result ≡ with_progress cycled round =
     c.with_progress-next.ensures
-    ∙ (ap (λ (e : Engine). with_progress e c.with_round-progress.result) (c.with_cycle-cycled.ensures ∙ ap (with_cycle a.e) p.ensures.cycle_is)
+    ∙ (ap (λ (e : Engine). with_progress e c.with_round-progress.result) (c.with_cycle.ensures ∙ ap (with_cycle a.e) p.ensures.cycle_is)
     ∙ ap (with_progress cycled) (c.with_round-progress.ensures
     ∙ (ap (λ (x : Float). with_round a.e.progress a.clock x p.result.boundary) p.ensures.tick_is ∙ ap (with_round a.e.progress a.clock R.tick) p.ensures.boundary_is))) in
     let after = with_worked W t R in
@@ -96,9 +96,9 @@ returns c =
     worked_done inner R c.phased.result p.new.b a.out.now q.new.out
     (done_is told inner c.phased.result p.new.b a.out.now q.new.out (sym (ap (λ (b : Bool). cond b (reading after t) told) test))
     (record {
-      head_is = ap (λ (s : Said). s.head) c.phased.ensures ∙ ap (λ (e : Engine). (said_in e Read c.listed-r.result).head) next;
+      head_is = ap (λ (s : Said). s.head) c.phased.ensures ∙ ap (λ (e : Engine). (said_in e Read c.listed.result).head) next;
       board_is = p.ensures.holds.board;
-      reply_is = ap (λ (s : Said). s.reply) c.phased.ensures ∙ (c.listed-r.ensures ∙ ap reply.read (q.ensures.0 ∙ ap (length {A = ℕ}) asked));
+      reply_is = ap (λ (s : Said). s.reply) c.phased.ensures ∙ (c.listed.ensures ∙ ap reply.read (q.ensures.0 ∙ ap (length {A = ℕ}) asked));
       out_is = q.ensures.1 ∙ ap (λ (l : List ℕ). wrote_all a.out.now (tag_bytes l)) asked;
       silent = λ h. absurd (false≢true h);
     }))

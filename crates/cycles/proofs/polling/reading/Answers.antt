@@ -35,7 +35,7 @@ returns-then-asked_count-eq0 c =
     let D = describing B in
     let stats = read_stats a.e.stats (length B.asked) in
     let next : c.with_stats-next.result ≡ with_stats a.e stats =
-    c.with_stats-next.ensures ∙ ap (with_stats a.e) (c.read_stats-stats.ensures ∙ ap (read_stats a.e.stats) c.asked_count-tags.ensures) in
+    c.with_stats-next.ensures ∙ ap (with_stats a.e) (c.read_stats.ensures ∙ ap (read_stats a.e.stats) c.asked_count-tags.ensures) in
     let left : worker c.with_stats-next.result (board_in d.new.b) ≡ worker (with_stats a.e stats) D =
     ap (λ (e : Engine). worker e (board_in d.new.b)) next ∙ ap (worker (with_stats a.e stats)) d.ensures.board in
     let asked : (board_in d.new.b).asked ≡ D.asked = ap (λ (X : Board). X.asked) d.ensures.board in
@@ -61,7 +61,7 @@ returns c =
     let D = describing B in
     let stats = read_stats a.e.stats (length B.asked) in
     let next : c.with_stats-next.result ≡ with_stats a.e stats =
-    c.with_stats-next.ensures ∙ ap (with_stats a.e) (c.read_stats-stats.ensures ∙ ap (read_stats a.e.stats) c.asked_count-tags.ensures) in
+    c.with_stats-next.ensures ∙ ap (with_stats a.e) (c.read_stats.ensures ∙ ap (read_stats a.e.stats) c.asked_count-tags.ensures) in
     let left : worker c.with_stats-next.result (board_in d.new.b) ≡ worker (with_stats a.e stats) D =
     ap (λ (e : Engine). worker e (board_in d.new.b)) next ∙ ap (worker (with_stats a.e stats)) d.ensures.board in
     let asked : (board_in d.new.b).asked ≡ D.asked = ap (λ (X : Board). X.asked) d.ensures.board in
@@ -72,9 +72,9 @@ returns c =
     let test : is_empty D.asked ≡ false = some_is {A = ℕ} D.asked (λ e. c.if-asked_count-eq0.false (count ∙ e)) in
     done_is told (reading W t) c.phased.result d.new.b a.out.now p.new.out (sym (ap (λ (b : Bool). cond b (checking after t) told) test))
     (record {
-      head_is = ap (λ (s : Said). s.head) c.phased.ensures ∙ ap (λ (e : Engine). (said_in e Describe c.listed-r.result).head) next;
+      head_is = ap (λ (s : Said). s.head) c.phased.ensures ∙ ap (λ (e : Engine). (said_in e Describe c.listed.result).head) next;
       board_is = d.ensures.board;
-      reply_is = ap (λ (s : Said). s.reply) c.phased.ensures ∙ (c.listed-r.ensures ∙ ap reply.describe (p.ensures.0 ∙ ap (length {A = ℕ}) asked));
+      reply_is = ap (λ (s : Said). s.reply) c.phased.ensures ∙ (c.listed.ensures ∙ ap reply.describe (p.ensures.0 ∙ ap (length {A = ℕ}) asked));
       out_is = p.ensures.1 ∙ ap (λ (l : List ℕ). wrote_all a.out.now (tag_bytes l)) asked;
       silent = λ h. absurd (false≢true h);
     })

@@ -23,7 +23,7 @@ returns-then-elapsed-p c B =
     let fit : SFits w64 a.wall = search rules in
     let next : c.with_stats-next.result ≡ with_stats a.e stats =
     c.with_stats-next.ensures
-    ∙ ap (with_stats a.e) (c.tail_stats-stats.ensures ∙ ap (tail_stats a.e.stats (elapsed W t) a.e.progress.tick) (to_z-of_z fit)) in
+    ∙ ap (with_stats a.e) (c.tail_stats.ensures ∙ ap (tail_stats a.e.stats (elapsed W t) a.e.progress.tick) (to_z-of_z fit)) in
     let test : le (elapsed W t) a.e.progress.tick ≡ true = c.if-elapsed-p.true in
     quiet_is (idle (worker c.with_stats-next.result B) t) (tail W t) _ B (simp (next, test)) (c.idle.ensures B)
 
@@ -37,6 +37,6 @@ returns c B =
     let fit : SFits w64 a.wall = search rules in
     let next : c.with_stats-next.result ≡ with_stats a.e stats =
     c.with_stats-next.ensures
-    ∙ ap (with_stats a.e) (c.tail_stats-stats.ensures ∙ ap (tail_stats a.e.stats (elapsed W t) a.e.progress.tick) (to_z-of_z fit)) in
+    ∙ ap (with_stats a.e) (c.tail_stats.ensures ∙ ap (tail_stats a.e.stats (elapsed W t) a.e.progress.tick) (to_z-of_z fit)) in
     let test : le (elapsed W t) a.e.progress.tick ≡ false = c.if-elapsed-p.false in
     quiet_is (polls (worker c.with_stats-next.result B)) (tail W t) _ B (simp (next, test)) (c.polls.ensures B)

@@ -4,9 +4,9 @@ use lib.IntN.{ℤ}
 use mir.Val.{SFits}
 use mir.Syntax.{w64}
 use mir.Facts.{to_z-of_z}
+use Rattle.std.specs.Prelude.{Some, None}
 use Rattle.board.specs.Board.{Board, board_in}
 use Rattle.queue.specs.Queue.{popped}
-use Rattle.queue.specs.declared.Popped.TheVariants.{Nothing, Is}
 use Rattle.replies.specs.Worker.{worker, at, Done}
 use Rattle.replies.proofs.DoneLaws.{done_is, wrote_nothing}
 use Rattle.cycles.specs.Polling.{resume, writing_of, writing}
@@ -23,7 +23,7 @@ returns-in_default c =
     let fit : SFits w64 a.wall = c.ranges.wall in
     let p = c.pop_write in
     let y = c.resume in
-    let none : popped B.queue ≡ Nothing = sym p.ensures.0 ∙ c.in_default.is in
+    let none : popped B.queue ≡ None = sym p.ensures.0 ∙ c.in_default.is in
     let same : board_in p.new.b ≡ B = p.ensures.1.board ∙ none_popped B none in
     let next = worker a.e (board_in p.new.b) in
     done_is (resume next t a.after) (writing W t a.after) y.result y.new.board a.out.now y.new.out
@@ -38,13 +38,13 @@ returns c =
     let W = worker a.e B in
     let t = at a.clock a.wall in
     let p = c.pop_write in
-    let w = c.in-Is.w in
-    let one : popped B.queue ≡ Is w = sym p.ensures.0 ∙ c.in-Is.is in
-    done_is (writing_of W t a.after (Is w)) (writing W t a.after) _ p.new.b a.out.now a.out.now (sym (ap (writing_of W t a.after) one))
+    let w = c.in-Some.w in
+    let one : popped B.queue ≡ Some w = sym p.ensures.0 ∙ c.in-Some.is in
+    done_is (writing_of W t a.after (Some w)) (writing W t a.after) _ p.new.b a.out.now a.out.now (sym (ap (writing_of W t a.after) one))
     (record {
-      head_is = simp (c.with_progress-head.ensures, c.with_writing-progress.ensures);
+      head_is = simp (c.with_progress.ensures, c.with_writing.ensures);
       board_is = p.ensures.1.board;
-      reply_is = c.write-r.ensures;
+      reply_is = c.write.ensures;
       out_is = sym (wrote_nothing a.out.now);
       silent = λ h. refl;
     })

@@ -1,11 +1,10 @@
--- `groups::group::read` meets its contract.
 use Rattle.groups.specs.Groups.{group_read}
 use Rattle.groups.proofs.group.read.Goals as goal
 
-pub returns-then-not-first : goal.returns-then-not-first
+pub returns-then-first : goal.returns-then-first
 unfolding group_read
-returns-then-not-first c = simp (c.if-not-first.true)
+returns-then-first c = simp c.if-first.true
 
-pub returns : goal.returns
+pub returns-else-first : goal.returns-else-first
 unfolding group_read
-returns c = simp (c.if-not-first.false)
+returns-else-first c = simp c.if-first.false

@@ -1,6 +1,6 @@
 -- `leaves::polls::leaf_tier` meets its contract.
 use mathlib.Core.Path.{◌≡◌, refl, sym, ◌∙◌}
-use borrow.Author.Tests.{eq-eqb, ne_eqb}
+use borrow.Author.Tests.{ne_eqb}
 use Rattle.leaves.specs.Polls.{size_check}
 use Rattle.leaves.proofs.Laws.{size_passed, size-refused}
 use Rattle.leaves.proofs.polls.leaf_tier.Goals as goal
@@ -13,6 +13,3 @@ returns-then-code-ne0 c =
 
 pub tier_of-requires : goal.tier_of-requires
 tier_of-requires c = size_passed c.args.mem.now (sym c.size_check-code.ensures ∙ c.if-code-ne0.false)
-
-pub returns : goal.returns
-returns c = c.tier_of.ensures ∙ rw (eq-eqb (size_check c.args.mem.now) 0 (sym c.size_check-code.ensures ∙ c.if-code-ne0.false)) refl

@@ -7,5 +7,5 @@ use Rattle.leaves.proofs.polls.size_check.Goals as goal
 pub returns-then-is_board_size : goal.returns-then-is_board_size
 returns-then-is_board_size c = size_checked c.args.mem.now true (sym c.if-is_board_size.true ∙ c.is_board_size.ensures)
 
-pub returns : goal.returns
-returns c = size_checked c.args.mem.now false (sym c.if-is_board_size.false ∙ c.is_board_size.ensures)
+pub returns-else-is_board_size : goal.returns-else-is_board_size
+returns-else-is_board_size c = size_checked c.args.mem.now false (sym c.if-is_board_size.false ∙ c.is_board_size.ensures)

@@ -22,17 +22,7 @@ returns-then-out-n c =
 pub loop-i-init : goal.loop-i-init
 loop-i-init c =
     let a = c.args in
-    (omega arith, (refl, records_none (change_cells (table_in a.table.now)) a.out.now (list_in a.list.now)))
-
-pub overflow_mul-i : goal.overflow_mul-i
-overflow_mul-i c =
-    omega arith
-
-pub overflow_add-i : goal.overflow_add-i
-overflow_add-i c = omega arith
-
-pub loop-i-smaller : goal.loop-i-smaller
-loop-i-smaller c = omega arith
+    (refl, records_none (change_cells (table_in a.table.now)) a.out.now (list_in a.list.now))
 
 pub loop-i-preserved : goal.loop-i-preserved
 loop-i-preserved c =
@@ -44,19 +34,12 @@ loop-i-preserved c =
     let xs = list_in a.list.now in
     let out = a.out.now in
     let i = l.i in (
-      omega arith,
-      (
-        put.auto.out ∙ l.invariant.1.0,
-        put.ensures
-            ∙ ap (λ (o : List ℕ). record_put o (9 * i) (f k.result)) l.invariant.1.1
-            ∙ ap (λ (k : ℕ). record_put (over_bytes out (cell_bytes (records f (take i xs)))) (9 * i) (f k)) k.ensures
-            ∙ put_nth f 9 (λ k. refl) out xs i 0 (omega arith) (omega arith),
-      ),
+      put.auto.out ∙ l.invariant.0,
+      put.ensures
+          ∙ ap (λ (o : List ℕ). record_put o (9 * i) (f k.result)) l.invariant.1
+          ∙ ap (λ (k : ℕ). record_put (over_bytes out (cell_bytes (records f (take i xs)))) (9 * i) (f k)) k.ensures
+          ∙ put_nth f 9 (λ k. refl) out xs i 0 (omega arith) (omega arith),
     )
-
-pub shape_of-out : goal.shape_of-out
-shape_of-out c =
-    c.loop-i.invariant.1.0
 
 pub returns : goal.returns
 returns c =
@@ -64,6 +47,6 @@ returns c =
     let l = c.loop-i in
     let f = change_cells (table_in a.table.now) in
     let xs = list_in a.list.now in
-    l.invariant.1.1
+    l.invariant.1
     ∙ ap (λ (ks : List ℕ). over_bytes a.out.now (cell_bytes (records f ks))) (take_all l.i xs (omega arith))
     ∙ sym (cells_fit a.out.now (records f xs) (omega (arith, length-records f 9 (λ k. refl) xs)))

@@ -1,5 +1,4 @@
 use mathlib.Core.Path.{◌≡◌}
-use Prim.Native.Nat.{◌≤◌, ◌-◌}
 use lib.ListN.{length, take}
 use Rattle.tags.specs.Lists.{list_in}
 use Rattle.table.specs.Table.{table_in}
@@ -9,7 +8,4 @@ use Rattle.lent.proofs.changes.put_changes.Given as goal
 
 abbrev pub invariant-loop-i : goal.invariant-loop-i
 invariant-loop-i l =
-    (l.i ≤ l.n) × ((length l.out ≡ length l.initial.out) × (l.out ≡ over_bytes l.initial.out (cell_bytes (records (change_cells (table_in l.table)) (take l.i (list_in l.list))))))
-
-abbrev pub decreases-loop-i : goal.decreases-loop-i
-decreases-loop-i l = l.n - l.i
+    (length l.out ≡ length l.initial.out) × (l.out ≡ over_bytes l.initial.out (cell_bytes (records (change_cells (table_in l.table)) (take l.i (list_in l.list)))))

@@ -1,40 +1,41 @@
 -- `listing::line::parse` meets its contract.
-use mathlib.Core.Path.{sym, ◌∙◌}
+use mathlib.Core.Path.{ap, sym, ◌∙◌}
 use native.Mathlib.Omega.{arith}
-use borrow.Author.Tests.{eq-eqb, ne_eqb}
-use Rattle.listing.proofs.Lines.{line_short, line_joined, line_lettered}
+use Rattle.listing.specs.declared.line.Line.TheVariants.{Options, Set}
+use Rattle.listing.proofs.Lines.{told, options_told, set_told, line_short, line_joined, line_rest, line_unlettered}
 use Rattle.listing.proofs.line.parse.Goals as goal
 
-pub returns-then-line-lt2 : goal.returns-then-line-lt2
-returns-then-line-lt2 c = sym (line_short c.args.line.now c.if-line-lt2.true)
+pub returns-in_default-letter : goal.returns-in_default-letter
+returns-in_default-letter c = sym (line_unlettered c.args.line.now c.in-32.len_at_least (omega arith) (omega arith) (omega arith) (omega arith) (omega arith))
 
-pub returns-then-line-ne32 : goal.returns-then-line-ne32
-returns-then-line-ne32 c = sym (line_joined c.args.line.now c.if-line-lt2.false c.if-line-ne32.true)
+pub returns-in_default : goal.returns-in_default
+returns-in_default c = sym (line_short c.args.line.now c.in_default.len_below)
 
-pub returns-then-letter-eq111 : goal.returns-then-letter-eq111
-returns-then-letter-eq111 c =
-    c.options.ensures
-    ∙ sym (line_lettered c.args.line.now c.if-line-lt2.false (omega arith) ∙ simp (eq-eqb _ _ c.if-letter-eq111.true))
+pub returns-in_default-2 : goal.returns-in_default-2
+returns-in_default-2 c = sym (line_joined c.args.line.now c.in_default.len_at_least (omega arith))
 
-pub returns-then-letter-eq110 : goal.returns-then-letter-eq110
-returns-then-letter-eq110 c =
-    c.name.ensures
-    ∙ sym (line_lettered c.args.line.now c.if-line-lt2.false (omega arith)
-    ∙ simp (ne_eqb _ _ c.if-letter-eq111.false, eq-eqb _ _ c.if-letter-eq110.true))
+pub returns-in-110 : goal.returns-in-110
+returns-in-110 c = c.name.ensures ∙ sym (line_rest c.args.line.now 110 c.in-32.len_at_least (omega arith) c.in-110.is)
 
-pub returns-then-letter-eq115 : goal.returns-then-letter-eq115
-returns-then-letter-eq115 c =
-    c.set.ensures
-    ∙ sym (line_lettered c.args.line.now c.if-line-lt2.false (omega arith)
-    ∙ simp (ne_eqb _ _ c.if-letter-eq111.false, ne_eqb _ _ c.if-letter-eq110.false, eq-eqb _ _ c.if-letter-eq115.true))
+pub returns-in-99 : goal.returns-in-99
+returns-in-99 c = c.round.ensures ∙ sym (line_rest c.args.line.now 99 c.in-32.len_at_least (omega arith) c.in-99.is)
 
-pub returns-then-letter-eq99 : goal.returns-then-letter-eq99
-returns-then-letter-eq99 c =
-    c.round.ensures
-    ∙ sym (line_lettered c.args.line.now c.if-line-lt2.false (omega arith)
-    ∙ simp (ne_eqb _ _ c.if-letter-eq111.false, ne_eqb _ _ c.if-letter-eq110.false, ne_eqb _ _ c.if-letter-eq115.false, eq-eqb _ _ c.if-letter-eq99.true))
+pub returns-in-Some : goal.returns-in-Some
+returns-in-Some c =
+    ap (told Options) c.in-Some.ensures
+    ∙ sym (line_rest c.args.line.now 111 c.in-32.len_at_least (omega arith) c.in-111.is ∙ options_told _)
 
-pub returns : goal.returns
-returns c =
-    sym (line_lettered c.args.line.now c.if-line-lt2.false (omega arith)
-    ∙ simp (ne_eqb _ _ c.if-letter-eq111.false, ne_eqb _ _ c.if-letter-eq110.false, ne_eqb _ _ c.if-letter-eq115.false, ne_eqb _ _ c.if-letter-eq99.false))
+pub returns-in-None : goal.returns-in-None
+returns-in-None c =
+    ap (told Options) c.in-None.ensures
+    ∙ sym (line_rest c.args.line.now 111 c.in-32.len_at_least (omega arith) c.in-111.is ∙ options_told _)
+
+pub returns-in-Some-three : goal.returns-in-Some-three
+returns-in-Some-three c =
+    ap (told Set) c.in-Some-three.ensures
+    ∙ sym (line_rest c.args.line.now 115 c.in-32.len_at_least (omega arith) c.in-115.is ∙ set_told _)
+
+pub returns-in-None-three : goal.returns-in-None-three
+returns-in-None-three c =
+    ap (told Set) c.in-None-three.ensures
+    ∙ sym (line_rest c.args.line.now 115 c.in-32.len_at_least (omega arith) c.in-115.is ∙ set_told _)

@@ -1,11 +1,7 @@
-use Prim.Native.Nat.{◌-◌, ◌≤◌}
 use Rattle.tags.specs.Lists.{list_in}
 use Rattle.listing.proofs.Held.{Holds}
 use Rattle.listing.proofs.Joined.{so_far}
 use Rattle.listing.proofs.write.put_line.Given as goal
 
 abbrev pub invariant-loop-i : goal.invariant-loop-i
-invariant-loop-i l = (l.i ≤ l.count) × (l.initial.at ≤ l.at) × Holds l.initial.out l.out l.at (so_far l.ms l.boundary (list_in l.list) l.i)
-
-abbrev pub decreases-loop-i : goal.decreases-loop-i
-decreases-loop-i l = l.count - l.i
+invariant-loop-i l = Holds l.fn.out l.out l.at (so_far l.ms l.boundary (list_in l.list) l.i)

@@ -6,4 +6,4 @@ use Rattle.memory.proofs.bytes.word.Goals as goal
 pub returns : goal.returns
 returns c =
     let s = c.args.s.now in
-    rw (c.quad-a.ensures.0, c.quad-b.ensures.0, cells_at s c.args.i c.requires) (word_quads s (8 * c.args.i))
+    rw (c.quad.ensures.0, c.quad-2.ensures.0, cells_at s c.args.i c.requires) (word_quads s (8 * c.args.i))

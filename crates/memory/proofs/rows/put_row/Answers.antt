@@ -1,12 +1,12 @@
 -- `memory::rows::put_row` meets its contract.
-use mathlib.Core.Path.{◌≡◌, refl, ap, sym, ◌∙◌}
+use mathlib.Core.Path.{◌≡◌, ap, sym, ◌∙◌}
 use mathlib.Core.List.{List}
 use Prim.Native.Nat.{ℕ, ◌<◌, ◌+◌, ◌*◌}
 use native.Mathlib.Omega.{arith}
 use native.Mathlib.Numerals.{add-one}
 use borrow.Author.Rules.{rules}
 use lib.ListN.{length, get_or, set}
-use lib.Seq.{paste, paste-zero, paste-suc}
+use lib.Seq.{paste, paste-suc}
 use Rattle.memory.specs.Cells.{cells_in}
 use Rattle.memory.proofs.CellLaws.{length_cells}
 use Rattle.memory.proofs.RowLaws.{rows_kept, rows_put}
@@ -16,32 +16,6 @@ pub returns-then-s-k : goal.returns-then-s-k
 returns-then-s-k c =
     let a = c.args in
     rows_kept a.s.now a.w a.k c.if-s-k.true
-
-pub loop-j-init : goal.loop-j-init
-loop-j-init c =
-    let a = c.args in
-    (omega arith, (refl, paste-zero (cells_in a.s.now) (32 * a.k) a.w))
-
-pub offset_bounds-w-j : goal.offset_bounds-w-j
-offset_bounds-w-j c = omega arith
-
-pub bounds-w-j : goal.bounds-w-j
-bounds-w-j c = omega arith
-
-pub overflow_mul-k : goal.overflow_mul-k
-overflow_mul-k c = omega arith
-
-pub overflow_add-k : goal.overflow_add-k
-overflow_add-k c = omega arith
-
-pub put_word-requires : goal.put_word-requires
-put_word-requires c = omega arith
-
-pub overflow_add-j : goal.overflow_add-j
-overflow_add-j c = omega arith
-
-pub loop-j-smaller : goal.loop-j-smaller
-loop-j-smaller c = omega arith
 
 pub loop-j-preserved : goal.loop-j-preserved
 loop-j-preserved c =
@@ -61,9 +35,6 @@ loop-j-preserved c =
             ∙ ap (λ (n : ℕ). paste d p a.w n) (sym (add-one l.j)),
       ),
     )
-
-pub shape_of-s : goal.shape_of-s
-shape_of-s c = c.loop-j.invariant.1.0
 
 pub returns : goal.returns
 returns c =

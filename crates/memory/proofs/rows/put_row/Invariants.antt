@@ -1,5 +1,5 @@
 use mathlib.Core.Path.{◌≡◌}
-use Prim.Native.Nat.{◌≤◌, ◌-◌, ◌*◌}
+use Prim.Native.Nat.{◌≤◌, ◌*◌}
 use lib.ListN.{length}
 use lib.Seq.{paste}
 use Rattle.memory.specs.Cells.{cells_in}
@@ -7,6 +7,3 @@ use Rattle.memory.proofs.rows.put_row.Given as goal
 
 abbrev pub invariant-loop-j : goal.invariant-loop-j
 invariant-loop-j l = (l.j ≤ 32) × ((length l.s ≡ length l.initial.s) × (cells_in l.s ≡ paste (cells_in l.initial.s) (32 * l.k) l.w l.j))
-
-abbrev pub decreases-loop-j : goal.decreases-loop-j
-decreases-loop-j l = 32 - l.j

@@ -1,5 +1,5 @@
 -- `memory::rows::row` meets its contract.
-use mathlib.Core.Path.{refl, sym, ◌∙◌}
+use mathlib.Core.Path.{sym, ◌∙◌}
 use native.Mathlib.Omega.{arith}
 use lib.ListN.{get_or}
 use Rattle.memory.specs.Cells.{rows_in, no_row}
@@ -11,30 +11,6 @@ pub returns-then-s-k : goal.returns-then-s-k
 returns-then-s-k c =
     let a = c.args in
     sym (rows_none a.s.now a.k c.if-s-k.true)
-
-pub loop-j-init : goal.loop-j-init
-loop-j-init c = (omega arith, refl)
-
-pub overflow_mul-k : goal.overflow_mul-k
-overflow_mul-k c = omega arith
-
-pub overflow_add-k : goal.overflow_add-k
-overflow_add-k c = omega arith
-
-pub word-requires : goal.word-requires
-word-requires c = omega arith
-
-pub offset_bounds-w-j : goal.offset_bounds-w-j
-offset_bounds-w-j c = omega arith
-
-pub bounds-w-j : goal.bounds-w-j
-bounds-w-j c = omega arith
-
-pub overflow_add-j : goal.overflow_add-j
-overflow_add-j c = omega arith
-
-pub loop-j-smaller : goal.loop-j-smaller
-loop-j-smaller c = omega arith
 
 pub loop-j-preserved : goal.loop-j-preserved
 loop-j-preserved c =

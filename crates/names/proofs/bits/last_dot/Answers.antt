@@ -1,12 +1,9 @@
-use mathlib.Core.Path.{refl, sym, ◌∙◌}
+use mathlib.Core.Path.{sym, ◌∙◌}
 use native.Mathlib.Omega.{arith}
 use borrow.Author.Tests.{eq-eqb, ne_eqb}
 use Rattle.names.proofs.Loops.{dot_more, dot_end}
 use Rattle.names.proofs.bits.last_dot.Goals as goal
 use Rattle.names.proofs.bits.last_dot.Goals.{else-s-i-eq46, then-s-i-eq46}
-
-pub loop-i-init : goal.loop-i-init
-loop-i-init c = (omega arith, refl)
 
 pub loop-i-preserved : goal.loop-i-preserved
 loop-i-preserved c =

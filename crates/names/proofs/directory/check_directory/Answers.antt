@@ -1,5 +1,6 @@
 -- Each return is one line of the checks, given that those before it are not met.
 use mathlib.Core.Path.{sym, ◌∙◌}
+use mathlib.Core.Logic.{⊎_elim}
 use Rattle.names.specs.Directory.{max_names, max_name_length}
 use Rattle.names.proofs.DirectoryLaws.{check_none, check_many, check_2, check_3, check_4, check_0}
 use Rattle.names.proofs.directory.check_directory.Goals as goal
@@ -7,12 +8,8 @@ use Rattle.names.proofs.directory.check_directory.Goals as goal
 pub returns-then-ends-eq0 : goal.returns-then-ends-eq0
 returns-then-ends-eq0 c =
     let args = c.args in
-    sym (check_none max_names max_name_length args.names.now args.ends.now c.if-ends-eq0.true)
-
-pub returns-then-ends-gt-MAX_NAMES : goal.returns-then-ends-gt-MAX_NAMES
-returns-then-ends-gt-MAX_NAMES c =
-    let args = c.args in
-    sym (check_many max_names max_name_length args.names.now args.ends.now c.if-ends-eq0.false c.if-ends-gt-MAX_NAMES.true)
+    let many = check_many max_names max_name_length args.names.now args.ends.now in
+    sym (⊎_elim (λ h. check_none max_names max_name_length args.names.now args.ends.now h) (λ h. many h.0 h.1) c.then-ends-eq0.either)
 
 pub returns-then-not-good_ends : goal.returns-then-not-good_ends
 returns-then-not-good_ends c =

@@ -12,8 +12,8 @@ pub returns-then-not-less : goal.returns-then-not-less
 returns-then-not-less c =
     let args = c.args in
     let loop = c.loop-i in
-    let before = c.name_of-before.ensures in
-    let name = c.name_of-name.ensures in
+    let before = c.name_of.ensures in
+    let name = c.name_of-in-loop-i.ensures in
     let more = rising_more (names_of args.names.now args.ends.now) loop.i _ _ _ (rw length_names (omega arith)) before name c.less.ensures in
     sym (loop.invariant.1 ∙ more ∙ simp (c.if-not-less.true))
 
@@ -21,8 +21,8 @@ pub loop-i-preserved : goal.loop-i-preserved
 loop-i-preserved c =
     let args = c.args in
     let loop = c.loop-i in
-    let before = c.name_of-before.ensures in
-    let name = c.name_of-name.ensures in
+    let before = c.name_of.ensures in
+    let name = c.name_of-in-loop-i.ensures in
     let more = rising_more (names_of args.names.now args.ends.now) loop.i _ _ _ (rw length_names (omega arith)) before name c.less.ensures in
     (omega arith, loop.invariant.1 ∙ more ∙ simp (c.if-not-less.false))
 

@@ -2,12 +2,9 @@
 use mathlib.Core.Path.{◌≡◌}
 use mathlib.Core.List.{[]}
 use Prim.Native.Nat.{◌≤◌, ◌-◌}
-use lib.ListN.{length, get_or, drop}
+use lib.ListN.{get_or, drop}
 use Rattle.names.specs.Directory.{names_of, rising, rising_from}
 use Rattle.names.proofs.directory.is_rising.Given as goal
 
 abbrev pub invariant-loop-i : goal.invariant-loop-i
 invariant-loop-i l = (1 ≤ l.i) × (rising (names_of l.names l.ends) ≡ rising_from (get_or (names_of l.names l.ends) (l.i - 1) []) (drop l.i (names_of l.names l.ends)))
-
-abbrev pub decreases-loop-i : goal.decreases-loop-i
-decreases-loop-i l = length l.ends - l.i

@@ -1,12 +1,7 @@
 use mathlib.Core.Path.{sym, ◌∙◌}
 use native.Mathlib.Omega.{arith}
-use Rattle.names.proofs.Loops.{left_start, compared_less, compared_greater, compared_on, compared_long, compared_short, compared_end}
+use Rattle.names.proofs.Loops.{compared_less, compared_greater, compared_on, compared_long, compared_short, compared_end}
 use Rattle.names.proofs.order.compare_cased.Goals as goal
-
-pub loop-i-init : goal.loop-i-init
-loop-i-init c =
-    let args = c.args in
-    (omega arith, (omega arith, left_start args.lowered args.a.now args.b.now))
 
 pub returns-then-b-i : goal.returns-then-b-i
 returns-then-b-i c =
@@ -32,14 +27,14 @@ loop-i-preserved c =
     let loop = c.loop-i in
     (omega arith, (omega arith, loop.invariant.1.1 ∙ compared_on _ args.a.now args.b.now loop.i (omega arith) (omega arith) (omega arith) (omega arith)))
 
-pub returns-then-i-b : goal.returns-then-i-b
-returns-then-i-b c =
+pub returns-then-a-b : goal.returns-then-a-b
+returns-then-a-b c =
     let args = c.args in
     let loop = c.loop-i in
-    sym (loop.invariant.1.1 ∙ compared_short _ args.a.now args.b.now loop.i (omega arith) c.if-i-b.true)
+    sym (loop.invariant.1.1 ∙ compared_short _ args.a.now args.b.now loop.i (omega arith) (omega arith))
 
-pub returns-else-i-b : goal.returns-else-i-b
-returns-else-i-b c =
+pub returns-else-a-b : goal.returns-else-a-b
+returns-else-a-b c =
     let args = c.args in
     let loop = c.loop-i in
-    sym (loop.invariant.1.1 ∙ compared_end _ args.a.now args.b.now loop.i (omega arith) c.if-i-b.false)
+    sym (loop.invariant.1.1 ∙ compared_end _ args.a.now args.b.now loop.i (omega arith) (omega arith))

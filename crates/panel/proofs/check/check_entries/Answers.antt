@@ -1,13 +1,10 @@
 -- `panel::check::check_entries` meets its contract.
-use mathlib.Core.Path.{refl, sym, ◌∙◌}
+use mathlib.Core.Path.{sym, ◌∙◌}
 use native.Mathlib.Omega.{arith}
 use borrow.Author.Tests.{le-leb, lt-leb}
 use Rattle.panel.proofs.PanelLaws.{tiers_fewer, check_more, check_end}
 use Rattle.panel.specs.Panel.{tags_of, tiers_of}
 use Rattle.panel.proofs.check.check_entries.Goals as goal
-
-pub loop-i-init : goal.loop-i-init
-loop-i-init c = (omega arith, refl)
 
 pub returns-then-count-k : goal.returns-then-count-k
 returns-then-count-k c =
@@ -16,7 +13,7 @@ returns-then-count-k c =
     let s = a.list.now in
     let more = check_more a.count (tags_of s) (tiers_of s) l.i (omega (arith, tiers_fewer s)) (omega arith) in
     let k = c.tag_at-k.ensures in
-    sym (l.invariant.1 ∙ more ∙ rw (← k, le-leb _ _ c.if-count-k.true))
+    sym (l.invariant ∙ more ∙ rw (← k, le-leb _ _ c.if-count-k.true))
 
 pub seen-requires : goal.seen-requires
 seen-requires c = omega (arith, tiers_fewer c.args.list.now)
@@ -28,7 +25,7 @@ returns-then-seen c =
     let s = a.list.now in
     let more = check_more a.count (tags_of s) (tiers_of s) l.i (omega (arith, tiers_fewer s)) (omega arith) in
     let k = c.tag_at-k.ensures in
-    sym (l.invariant.1 ∙ more ∙ rw (← k, lt-leb _ _ c.if-count-k.false, ← c.seen.ensures, c.if-seen.true))
+    sym (l.invariant ∙ more ∙ rw (← k, lt-leb _ _ c.if-count-k.false, ← c.seen.ensures, c.if-seen.true))
 
 pub returns-then-bad_tier : goal.returns-then-bad_tier
 returns-then-bad_tier c =
@@ -37,13 +34,7 @@ returns-then-bad_tier c =
     let s = a.list.now in
     let more = check_more a.count (tags_of s) (tiers_of s) l.i (omega (arith, tiers_fewer s)) (omega arith) in
     let k = c.tag_at-k.ensures in
-    sym (l.invariant.1 ∙ more ∙ rw (← k, lt-leb _ _ c.if-count-k.false, ← c.seen.ensures, c.if-seen.false, ← c.tier_at.ensures, ← c.bad_tier.ensures, c.if-bad_tier.true))
-
-pub overflow_add-i : goal.overflow_add-i
-overflow_add-i c = omega arith
-
-pub loop-i-smaller : goal.loop-i-smaller
-loop-i-smaller c = omega arith
+    sym (l.invariant ∙ more ∙ rw (← k, lt-leb _ _ c.if-count-k.false, ← c.seen.ensures, c.if-seen.false, ← c.tier_at.ensures, ← c.bad_tier.ensures, c.if-bad_tier.true))
 
 pub loop-i-preserved : goal.loop-i-preserved
 loop-i-preserved c =
@@ -52,11 +43,11 @@ loop-i-preserved c =
     let s = a.list.now in
     let more = check_more a.count (tags_of s) (tiers_of s) l.i (omega (arith, tiers_fewer s)) (omega arith) in
     let k = c.tag_at-k.ensures in
-    (omega arith, l.invariant.1 ∙ more ∙ rw (← k, lt-leb _ _ c.if-count-k.false, ← c.seen.ensures, c.if-seen.false, ← c.tier_at.ensures, ← c.bad_tier.ensures, c.if-bad_tier.false))
+    l.invariant ∙ more ∙ rw (← k, lt-leb _ _ c.if-count-k.false, ← c.seen.ensures, c.if-seen.false, ← c.tier_at.ensures, ← c.bad_tier.ensures, c.if-bad_tier.false)
 
 pub returns : goal.returns
 returns c =
     let a = c.args in
     let l = c.loop-i in
     let s = a.list.now in
-    sym (l.invariant.1 ∙ check_end a.count (tags_of s) (tiers_of s) l.i (omega arith))
+    sym (l.invariant ∙ check_end a.count (tags_of s) (tiers_of s) l.i (omega arith))

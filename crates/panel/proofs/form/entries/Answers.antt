@@ -11,7 +11,7 @@ returns-then-list-n-2 c =
     let s = c.args.list.now in
     omega (arith, tiers_some s (omega arith) (omega arith))
 
-pub returns : goal.returns
-returns c =
+pub returns-else-list-n-2 : goal.returns-else-list-n-2
+returns-else-list-n-2 c =
     let s = c.args.list.now in
     omega (arith, tiers_all s (omega arith) (omega arith))

@@ -4,12 +4,12 @@ use native.Mathlib.Omega.{arith}
 use Rattle.panel.proofs.PanelLaws.{tags_at, tags_past}
 use Rattle.panel.proofs.form.tag_at.Goals as goal
 
-pub returns-then-i-n : goal.returns-then-i-n
-returns-then-i-n c =
+pub returns-then-i-byte : goal.returns-then-i-byte
+returns-then-i-byte c =
     let a = c.args in
-    c.byte.ensures ∙ sym (tags_at a.list.now a.i (omega arith))
+    c.byte-then-i-byte.ensures ∙ sym (tags_at a.list.now a.i (omega arith))
 
-pub returns : goal.returns
-returns c =
+pub returns-else-i-byte : goal.returns-else-i-byte
+returns-else-i-byte c =
     let a = c.args in
     sym (tags_past a.list.now a.i (omega arith))

@@ -12,7 +12,7 @@ returns-then-i-n c =
     let n = c.byte-n.ensures in
     c.byte.ensures ∙ ap (λ (n : ℕ). get_or a.list.now (1 + n + a.i) 0) n ∙ sym (tiers_at a.list.now a.i (omega arith))
 
-pub returns : goal.returns
-returns c =
+pub returns-else-i-n : goal.returns-else-i-n
+returns-else-i-n c =
     let a = c.args in
     sym (tiers_past a.list.now a.i (omega arith))

@@ -1,5 +1,5 @@
 -- `panel::load::load_panel` meets its contract.
-use mathlib.Core.Path.{refl, ap, ap₂, sym, ◌∙◌}
+use mathlib.Core.Path.{ap, ap₂, sym, ◌∙◌}
 use Prim.Native.Nat.{ℕ, ◌+◌}
 use native.Mathlib.Omega.{arith}
 use lib.ListN.{drop}
@@ -8,15 +8,6 @@ use Rattle.tiers.specs.Tiers.{set_tier}
 use Rattle.panel.proofs.PanelLaws.{tiers_fewer, load_more, load_end}
 use Rattle.panel.specs.Panel.{tags_of, tiers_of, loaded}
 use Rattle.panel.proofs.load.load_panel.Goals as goal
-
-pub loop-i-init : goal.loop-i-init
-loop-i-init c = (omega arith, (c.requires, (refl, refl)))
-
-pub overflow_add-i : goal.overflow_add-i
-overflow_add-i c = omega arith
-
-pub loop-i-smaller : goal.loop-i-smaller
-loop-i-smaller c = omega arith
 
 pub loop-i-preserved : goal.loop-i-preserved
 loop-i-preserved c =
@@ -27,21 +18,15 @@ loop-i-preserved c =
     let tags = tags_of list in
     let tiers = tiers_of list in
     let B = board_in l.b in
-    let call = s.ensures.board ∙ ap₂ (λ (k tier : ℕ). with_table B (set_tier B.table k tier a.grace a.clock)) c.tag_at-k.ensures c.tier_at-tier.ensures in (
-      omega arith,
+    let call = s.ensures.board ∙ ap₂ (λ (k tier : ℕ). with_table B (set_tier B.table k tier a.grace a.clock)) c.tag_at.ensures c.tier_at.ensures in (
+      s.ensures.still,
       (
-        s.ensures.still,
-        (
-          s.auto.b ∙ l.invariant.1.1.0,
-          l.invariant.1.1.1
-              ∙ ap (λ (T : Table). with_table B T) (load_more B.table tags tiers a.grace a.clock l.i (omega (arith, tiers_fewer list)) (omega arith))
-              ∙ ap (λ (X : Board). with_table X (loaded X.table (drop (l.i + 1) tags) (drop (l.i + 1) tiers) a.grace a.clock)) (sym call),
-        ),
+        s.auto.b ∙ l.invariant.1.0,
+        l.invariant.1.1
+            ∙ ap (λ (T : Table). with_table B T) (load_more B.table tags tiers a.grace a.clock l.i (omega (arith, tiers_fewer list)) (omega arith))
+            ∙ ap (λ (X : Board). with_table X (loaded X.table (drop (l.i + 1) tags) (drop (l.i + 1) tiers) a.grace a.clock)) (sym call),
       ),
     )
-
-pub shape_of-b : goal.shape_of-b
-shape_of-b c = c.loop-i.invariant.1.1.0
 
 pub returns : goal.returns
 returns c =
@@ -50,6 +35,6 @@ returns c =
     let list = a.list.now in
     let B = board_in l.b in
     record {
-      still = l.invariant.1.0;
-      board = sym (l.invariant.1.1.1 ∙ ap (λ (T : Table). with_table B T) (load_end B.table (tags_of list) (tiers_of list) a.grace a.clock l.i (omega arith)));
+      still = l.invariant.0;
+      board = sym (l.invariant.1.1 ∙ ap (λ (T : Table). with_table B T) (load_end B.table (tags_of list) (tiers_of list) a.grace a.clock l.i (omega arith)));
     }

@@ -36,8 +36,8 @@ returns-then-p-n-2 c =
     ∙ ap (tier_in tags) (c.at-then-p-n-2.ensures ∙ ap (λ (m : ℕ). get_or order (a.p - m - 1) 0) n)
     ∙ panel_tier tags order a.p (omega arith) (omega arith)
 
-pub returns : goal.returns
-returns c =
+pub returns-else-p-n-2 : goal.returns-else-p-n-2
+returns-else-p-n-2 c =
     let a = c.args in
     let tags = table_in a.t.now in
     let order = list_in a.order.now in

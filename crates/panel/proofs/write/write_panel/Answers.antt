@@ -1,5 +1,5 @@
 -- `panel::write::write_panel` meets its contract.
-use mathlib.Core.Path.{refl, ◌∙◌}
+use mathlib.Core.Path.{◌∙◌}
 use native.Mathlib.Omega.{arith}
 use borrow.Author.Rules.{rules}
 use Rattle.panel.proofs.WriteLaws.{length_panel, short_length, short_kept, full_length, full_put}
@@ -7,7 +7,6 @@ use Rattle.tags.specs.Lists.{list_in}
 use Rattle.tags.proofs.ListLaws.{list_short}
 use Rattle.table.specs.Table.{table_in}
 use Rattle.panel.specs.Panel.{panel_of}
-use lib.Seq.{paste-zero}
 use Rattle.memory.proofs.LoopLaws.{fill_more}
 use Rattle.panel.proofs.write.write_panel.Goals as goal
 
@@ -24,29 +23,13 @@ returns-then-out-size c =
     let long = length_panel (table_in a.t.now) (list_in a.order.now) in
     record { value = short_length a.out.now bytes (omega arith); out_after = short_kept a.out.now bytes (omega arith) }
 
-pub loop-p-init : goal.loop-p-init
-loop-p-init c =
-    let a = c.args in
-    let bytes = panel_of (table_in a.t.now) (list_in a.order.now) in
-    let long = length_panel (table_in a.t.now) (list_in a.order.now) in
-    (omega arith, (refl, paste-zero a.out.now 0 bytes))
-
-pub overflow_add-p : goal.overflow_add-p
-overflow_add-p c = omega arith
-
-pub loop-p-smaller : goal.loop-p-smaller
-loop-p-smaller c = omega arith
-
 pub loop-p-preserved : goal.loop-p-preserved
 loop-p-preserved c =
     let a = c.args in
     let bytes = panel_of (table_in a.t.now) (list_in a.order.now) in
     let long = length_panel (table_in a.t.now) (list_in a.order.now) in
     let l = c.loop-p in
-    (omega arith, (search rules, fill_more a.out.now bytes l.out l.p l.invariant.1.1 c.byte_of.result 0 c.byte_of.ensures (omega arith) (omega arith)))
-
-pub shape_of-out : goal.shape_of-out
-shape_of-out c = c.loop-p.invariant.1.0
+    (search rules, fill_more a.out.now bytes l.out l.p l.invariant.1 c.byte_of.result 0 c.byte_of.ensures (omega arith) (omega arith))
 
 pub returns : goal.returns
 returns c =
@@ -54,4 +37,4 @@ returns c =
     let bytes = panel_of (table_in a.t.now) (list_in a.order.now) in
     let long = length_panel (table_in a.t.now) (list_in a.order.now) in
     let l = c.loop-p in
-    record { value = omega (arith, full_length a.out.now bytes (omega arith)); out_after = l.invariant.1.1 ∙ full_put a.out.now bytes l.p (omega arith) (omega arith) }
+    record { value = omega (arith, full_length a.out.now bytes (omega arith)); out_after = l.invariant.1 ∙ full_put a.out.now bytes l.p (omega arith) (omega arith) }

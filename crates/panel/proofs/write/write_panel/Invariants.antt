@@ -1,5 +1,4 @@
 use mathlib.Core.Path.{◌≡◌}
-use Prim.Native.Nat.{◌≤◌, ◌-◌}
 use lib.ListN.{length}
 use Rattle.tags.specs.Lists.{list_in}
 use Rattle.table.specs.Table.{table_in}
@@ -9,7 +8,4 @@ use Rattle.panel.proofs.write.write_panel.Given as goal
 
 abbrev pub invariant-loop-p : goal.invariant-loop-p
 invariant-loop-p l =
-    (l.p ≤ l.size) × ((length l.out ≡ length l.initial.out) × (l.out ≡ paste l.initial.out 0 (panel_of (table_in l.t) (list_in l.order)) l.p))
-
-abbrev pub decreases-loop-p : goal.decreases-loop-p
-decreases-loop-p l = l.size - l.p
+    (length l.out ≡ length l.initial.out) × (l.out ≡ paste l.initial.out 0 (panel_of (table_in l.t) (list_in l.order)) l.p)

@@ -10,12 +10,12 @@ use Rattle.replies.proofs.DoneLaws.{done_is}
 use Rattle.replies.proofs.EmptyLaws.{empty_is, some_is}
 use Rattle.replies.proofs.losing.down.Goals as goal
 
-pub returns-then-link : goal.returns-then-link
+pub returns-then-e : goal.returns-then-e
 unfolding down
-returns-then-link c =
+returns-then-e c =
     let a = c.args in
     let W = worker a.e (board_in a.board.now) in
-    let test : a.e.link.stopping ≡ true = c.if-link.true in
+    let test : a.e.link.stopping ≡ true = c.if-e.true in
     done_is (ended W) (down W) _ _ _ _ (simp test) c.ended.ensures
 
 pub returns-then-queued-eq0 : goal.returns-then-queued-eq0
@@ -23,7 +23,7 @@ unfolding down
 returns-then-queued-eq0 c =
     let a = c.args in
     let W = worker a.e (board_in a.board.now) in
-    let test : a.e.link.stopping ≡ false = c.if-link.false in
+    let test : a.e.link.stopping ≡ false = c.if-e.false in
     let none : is_empty W.board.queue ≡ true = empty_is {A = Write} W.board.queue (sym c.queued.ensures ∙ c.if-queued-eq0.true) in
     done_is (staling W) (down W) _ _ _ _ (simp (test, none)) c.staling.ensures
 
@@ -32,6 +32,6 @@ unfolding down
 returns c =
     let a = c.args in
     let W = worker a.e (board_in a.board.now) in
-    let test : a.e.link.stopping ≡ false = c.if-link.false in
+    let test : a.e.link.stopping ≡ false = c.if-e.false in
     let some : is_empty W.board.queue ≡ false = some_is {A = Write} W.board.queue (λ e. c.if-queued-eq0.false (c.queued.ensures ∙ e)) in
     done_is (failing W FailedTold) (down W) _ _ _ _ (simp (test, some)) c.failing.ensures

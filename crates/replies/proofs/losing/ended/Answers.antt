@@ -6,9 +6,9 @@ pub returns : goal.returns
 returns c =
     let f = c.fail_writes-n.ensures in
     record {
-      head_is = simp (c.phased.ensures, c.with_link-next.ensures, c.with_state-link.ensures);
+      head_is = simp (c.phased.ensures, c.with_link-next.ensures, c.with_state.ensures);
       board_is = f.1.0.board;
-      reply_is = simp (c.phased.ensures, c.listed-r.ensures, f.0);
+      reply_is = simp (c.phased.ensures, c.listed.ensures, f.0);
       out_is = f.1.1;
       silent = λ h. absurd (false≢true h);
     }

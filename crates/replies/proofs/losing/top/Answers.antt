@@ -9,12 +9,12 @@ use Rattle.replies.specs.Losing.{ended, top}
 use Rattle.replies.proofs.DoneLaws.{done_is, wrote_nothing}
 use Rattle.replies.proofs.losing.top.Goals as goal
 
-pub returns-then-link : goal.returns-then-link
+pub returns-then-e : goal.returns-then-e
 unfolding top
-returns-then-link c =
+returns-then-e c =
     let a = c.args in
     let W = worker a.e (board_in a.board.now) in
-    let test : a.e.link.stopping ≡ true = c.if-link.true in
+    let test : a.e.link.stopping ≡ true = c.if-e.true in
     done_is (ended W) (top W) _ _ _ _ (simp test) c.ended.ensures
 
 pub returns : goal.returns
@@ -22,12 +22,12 @@ unfolding top
 returns c =
     let a = c.args in
     let W = worker a.e (board_in a.board.now) in
-    let test : a.e.link.stopping ≡ false = c.if-link.false in
+    let test : a.e.link.stopping ≡ false = c.if-e.false in
     done_is (asks W Connect reply.connect) (top W) c.phased.result a.board.now a.out.now a.out.now (simp test)
     (record {
       head_is = simp c.phased.ensures;
       board_is = refl;
-      reply_is = simp (c.phased.ensures, c.listed-r.ensures);
+      reply_is = simp (c.phased.ensures, c.listed.ensures);
       out_is = sym (wrote_nothing a.out.now);
       silent = λ h. refl;
     })

@@ -16,4 +16,4 @@ pub returns : goal.returns
 unfolding result_in
 returns c =
     let a = c.args in
-    simp (lt-ltb a.i (length a.s.now / 32) (omega arith), c.error_from-error.ensures, c.value_from-value.ensures, c.cell-message.ensures, c.cell-failed.ensures, c.cell-word.ensures, c.cell-kind.ensures)
+    simp (lt-ltb a.i (length a.s.now / 32) (omega arith), c.error_from.ensures, c.value_from.ensures, c.cell-4.ensures, c.cell-3.ensures, c.cell-2.ensures, c.cell.ensures)

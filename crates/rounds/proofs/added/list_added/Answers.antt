@@ -14,16 +14,7 @@ use Rattle.rounds.specs.Added.{is_added}
 use Rattle.lists.specs.Keep.{up_to}
 use Rattle.rounds.proofs.AddedLaws.{added_none, added_yes, added_listed, added_no}
 use Rattle.rounds.proofs.added.list_added.Goals as goal
-use Rattle.rounds.proofs.added.list_added.Goals.{then-added_of+then-not-contains, then-added_of+else-not-contains, else-added_of, else-rows-lt65536, then-rows-lt65536}
-
-pub overflow_add-k : goal.overflow_add-k
-overflow_add-k c = omega arith
-
-pub loop-k-smaller : goal.loop-k-smaller
-loop-k-smaller c = omega arith
-
-pub shape_of-list : goal.shape_of-list
-shape_of-list c = c.loop-k.invariant.1.1.0
+use Rattle.rounds.proofs.added.list_added.Goals.{then-added_of+then-not-contains, else-added_of, else-added_of-via-then-added_of+else-not-contains, else-added_of-via-else-added_of, else-rows-lt65536, then-rows-lt65536}
 
 pub returns : goal.returns
 returns c =
@@ -32,17 +23,14 @@ returns c =
     let tags = table_in a.t.now in
     let b = list_in a.list.now in
     let all : l.k ≡ min (length tags) 65536 = omega (arith, length-table a.t.now) in
-    l.invariant.1.1.1 ∙ ap (λ (m : ℕ). take (room a.list.now) (b ++ keep (is_added tags b) (up_to m))) all
+    l.invariant.1.1 ∙ ap (λ (m : ℕ). take (room a.list.now) (b ++ keep (is_added tags b) (up_to m))) all
 
 pub loop-k-init : goal.loop-k-init
 loop-k-init c =
     let a = c.args in
     let p = is_added (table_in a.t.now) (list_in a.list.now) in (
-      omega arith,
-      (
-        elim c.if-rows-lt65536.branch [ then-rows-lt65536 w ↦ omega (arith, w.n-is) | else-rows-lt65536 w ↦ omega (arith, w.n-is) ],
-        (refl, fitted_none a.list.now (keep p (up_to 0)) (added_none p)),
-      ),
+      elim c.if-rows-lt65536.branch [ then-rows-lt65536 w ↦ omega (arith, w.n-is) | else-rows-lt65536 w ↦ omega (arith, w.n-is) ],
+      (refl, fitted_none a.list.now (keep p (up_to 0)) (added_none p)),
     )
 
 pub loop-k-preserved : goal.loop-k-preserved
@@ -54,28 +42,24 @@ loop-k-preserved c =
     let start = a.list.now in
     let b = list_in start in
     let o = list_in l.list in
-    let done = l.invariant.1.1.1 in
-    let same : room l.list ≡ room start = room_same l.list start l.invariant.1.1.0 in
+    let done = l.invariant.1.1 in
+    let same : room l.list ≡ room start = room_same l.list start l.invariant.1.0 in
     let short : length b ≤ room start = list_short start in
     let small : l.k < 65536 = omega arith in (
-      omega arith,
-      (
-        l.invariant.1.0,
-        elim c.if-added_of.branch [
-          | then-added_of+then-not-contains w ↦ (
-            ap length w.list-is ∙ w.push.auto.s ∙ l.invariant.1.1.0,
-            ap list_in w.list-is ∙ w.push.ensures ∙ ap (λ (m : ℕ). pushed m o (l.k % 65536)) same
-                ∙ added_yes tags b (room start) l.k o done short small (sym flag.ensures ∙ w.if-added_of.true) (sym w.contains.ensures ∙ w.if-not-contains.true),
-          )
-          | then-added_of+else-not-contains w ↦ (
-            ap length w.list-is ∙ l.invariant.1.1.0,
-            ap list_in w.list-is
-                ∙ added_listed tags b (room start) l.k o done short (sym flag.ensures ∙ w.if-added_of.true) (sym w.contains.ensures ∙ w.if-not-contains.false),
-          )
-          | else-added_of w ↦ (
-            ap length w.list-is ∙ l.invariant.1.1.0,
-            ap list_in w.list-is ∙ added_no tags b (room start) l.k o done (sym flag.ensures ∙ w.if-added_of.false),
-          )
-        ],
-      ),
+      l.invariant.0,
+      elim c.if-added_of.branch [
+        | then-added_of+then-not-contains w ↦ (
+          ap length w.list-is ∙ w.push.auto.s ∙ l.invariant.1.0,
+          ap list_in w.list-is ∙ w.push.ensures ∙ ap (λ (m : ℕ). pushed m o (l.k % 65536)) same
+              ∙ added_yes tags b (room start) l.k o done short small (sym flag.ensures ∙ w.if-added_of.true) (sym w.contains.ensures ∙ w.if-not-contains.true),
+        )
+        | else-added_of w ↦ (
+          ap length w.list-is ∙ l.invariant.1.0,
+          ap list_in w.list-is ∙ elim w.else-added_of.branch [
+            | else-added_of-via-then-added_of+else-not-contains w' ↦
+                added_listed tags b (room start) l.k o done short (sym flag.ensures ∙ w'.if-added_of.true) (sym w'.contains.ensures ∙ w'.if-not-contains.false)
+            | else-added_of-via-else-added_of w' ↦ added_no tags b (room start) l.k o done (sym flag.ensures ∙ w'.if-added_of.false)
+          ],
+        )
+      ],
     )

@@ -1,6 +1,6 @@
 use mathlib.Core.Path.{◌≡◌}
 use mathlib.Core.List.{◌++◌}
-use Prim.Native.Nat.{◌≤◌, ◌-◌, min}
+use Prim.Native.Nat.{min}
 use lib.ListN.{length, take}
 use Rattle.lists.specs.Keep.{keep}
 use Rattle.tags.specs.Lists.{list_in, room}
@@ -11,7 +11,4 @@ use Rattle.rounds.proofs.added.list_added.Given as goal
 
 abbrev pub invariant-loop-k : goal.invariant-loop-k
 invariant-loop-k l =
-    (l.k ≤ l.n) × ((l.n ≡ min l.rows 65536) × ((length l.list ≡ length l.initial.list) × (list_in l.list ≡ take (room l.initial.list) (list_in l.initial.list ++ keep (is_added (table_in l.t) (list_in l.initial.list)) (up_to l.k)))))
-
-abbrev pub decreases-loop-k : goal.decreases-loop-k
-decreases-loop-k l = l.n - l.k
+    (l.n ≡ min l.rows 65536) × ((length l.list ≡ length l.initial.list) × (list_in l.list ≡ take (room l.initial.list) (list_in l.initial.list ++ keep (is_added (table_in l.t) (list_in l.initial.list)) (up_to l.k))))

@@ -1,7 +1,7 @@
 use mathlib.Core.Path.{◌≡◌}
 use mathlib.Core.Bool.{Bool}
 use mathlib.Core.List.{List}
-use Prim.Native.Nat.{ℕ, ◌≤◌, ◌-◌}
+use Prim.Native.Nat.{ℕ}
 use lib.ListN.{length, drop}
 use Rattle.tags.specs.Lists.{list_in}
 use Rattle.board.specs.Layout.{IsBoard}
@@ -16,7 +16,4 @@ recorded B clock seen list = with_groups B (recorded_due B.table.tags clock seen
 
 abbrev pub invariant-loop-i : goal.invariant-loop-i
 invariant-loop-i l =
-    (l.i ≤ l.n) × (IsBoard l.b × ((length l.b ≡ length l.initial.b) × (recorded (board_in l.initial.b) l.clock none_seen (list_in l.list) ≡ recorded (board_in l.b) l.clock l.seen (drop l.i (list_in l.list)))))
-
-abbrev pub decreases-loop-i : goal.decreases-loop-i
-decreases-loop-i l = l.n - l.i
+    IsBoard l.b × ((length l.b ≡ length l.initial.b) × (recorded (board_in l.initial.b) l.clock none_seen (list_in l.list) ≡ recorded (board_in l.b) l.clock l.seen (drop l.i (list_in l.list))))

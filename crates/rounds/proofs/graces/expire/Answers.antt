@@ -11,14 +11,14 @@ use Rattle.rounds.specs.Graces.{has_run_out, expired}
 use Rattle.rounds.proofs.GraceLaws.{run_none}
 use Rattle.rounds.proofs.graces.expire.Goals as goal
 
-pub returns-then-not-boundary : goal.returns-then-not-boundary
-returns-then-not-boundary c =
+pub returns-else-boundary : goal.returns-else-boundary
+returns-else-boundary c =
     let a = c.args in
     let B = board_in a.b.now in
-    rw (c.if-not-boundary.true) (record { still = c.requires.board; board = ap (λ (T : Table). with_table B T) (sym (run_none B.table)) })
+    rw (c.if-boundary.false) (record { still = c.requires.board; board = ap (λ (T : Table). with_table B T) (sym (run_none B.table)) })
 
-pub returns : goal.returns
-returns c =
+pub returns-then-boundary : goal.returns-then-boundary
+returns-then-boundary c =
     let a = c.args in
     let b = a.b.now in
     let T = (board_in b).table in
@@ -31,4 +31,4 @@ returns c =
     let over : list_in list.new.list ≡ expired T.tags T.graces a.clock =
     listed ∙ take_all (room a.list.now) (expired T.tags T.graces a.clock) (omega (arith, length-keep (has_run_out T.tags a.clock) T.graces, graces_short b c.requires.board, room_few b c.requires.board, c.requires.max_names_bound))
     in
-    rw (c.if-not-boundary.false) (rw over at c.run_out.ensures)
+    rw (c.if-boundary.true) (rw over at c.run_out.ensures)

@@ -10,7 +10,7 @@ use lib.Seq.{take-nil}
 use Rattle.lists.specs.Keep.{keep}
 use Rattle.tags.specs.Lists.{list_in, pushed}
 use Rattle.tags.proofs.ListLaws.{list_small}
-use Rattle.tags.proofs.CollectLaws.{collect_none, clipped_yes, clipped_no, clipped_all}
+use Rattle.tags.proofs.CollectLaws.{collect_none, clipped_yes, clipped_no}
 use Rattle.board.specs.Board.{Board, board_in, tag_at, with_asked}
 use Rattle.rounds.specs.Missing.{is_held_back}
 use Rattle.rounds.proofs.missing.drop_missing.Goals as goal
@@ -31,13 +31,7 @@ loop-i-init c =
     let xs = list_in a.wanted.now in
     let none = sym (take-nil B.table.room) ∙ ap (take B.table.room) (collect_none (test B a.clock) xs) in
     let cleared = start.ensures.board in
-    (omega arith, (refl, record { still = start.ensures.still; board = cleared ∙ ap (λ (l : List ℕ). with_asked B l) none ∙ sym (ap (λ (X : Board). with_asked X (kept X a.clock (take 0 xs))) cleared) }))
-
-pub overflow_add-i : goal.overflow_add-i
-overflow_add-i c = omega arith
-
-pub loop-i-smaller : goal.loop-i-smaller
-loop-i-smaller c = omega arith
+    (refl, record { still = start.ensures.still; board = cleared ∙ ap (λ (l : List ℕ). with_asked B l) none ∙ sym (ap (λ (X : Board). with_asked X (kept X a.clock (take 0 xs))) cleared) })
 
 pub loop-i-preserved : goal.loop-i-preserved
 loop-i-preserved c =
@@ -50,43 +44,24 @@ loop-i-preserved c =
     let p = test B a.clock in
     let n = B.table.room in
     let o = kept B a.clock (take l.i xs) in
-    let done = l.invariant.1.1.board in
+    let done = l.invariant.1.board in
     let small : k.result < 65536 = rw k.ensures (list_small a.wanted.now l.i) in
-    let tested : p k.result ≡ not held.result = ap (λ (X : Board). test X a.clock k.result) (sym done) ∙ ap not (sym held.ensures) in (
-      omega arith,
-      elim c.if-not-is_tag_held_back.branch [
-        | then-not-is_tag_held_back w ↦ (
-          ap length w.b-is ∙ w.push_asked.auto.b ∙ l.invariant.1.0,
-          record {
-            still = rw w.b-is w.push_asked.ensures.still;
-            board = ap board_in w.b-is ∙ w.push_asked.ensures.board
-                ∙ ap (λ (X : Board). with_asked X (pushed X.table.room X.asked (k.result % 65536))) done
-                ∙ ap (λ (r : List ℕ). with_asked B r) (clipped_yes p xs n l.i o refl k.result 0 (omega arith) small k.ensures (tested ∙ ap not w.if-not-is_tag_held_back.true));
-          },
-        )
-        | else-not-is_tag_held_back w ↦ (
-          ap length w.b-is ∙ l.invariant.1.0,
-          record {
-            still = rw w.b-is l.invariant.1.1.still;
-            board = ap board_in w.b-is ∙ done
-                ∙ ap (λ (r : List ℕ). with_asked B r) (clipped_no p xs n l.i o refl k.result 0 (omega arith) k.ensures (tested ∙ ap not w.if-not-is_tag_held_back.false));
-          },
-        )
-      ],
-    )
-
-pub shape_of-b : goal.shape_of-b
-shape_of-b c = c.loop-i.invariant.1.0 ∙ c.clear_asked.auto.b
-
-pub returns : goal.returns
-returns c =
-    let a = c.args in
-    let l = c.loop-i in
-    let B = board_in a.b.now in
-    let xs = list_in a.wanted.now in
-    record {
-      still = l.invariant.1.1.still;
-      board = l.invariant.1.1.board
-          ∙ ap (λ (X : Board). with_asked X (kept X a.clock (take l.i xs))) c.clear_asked.ensures.board
-          ∙ ap (λ (r : List ℕ). with_asked B r) (clipped_all (test B a.clock) xs B.table.room l.i (kept B a.clock (take l.i xs)) refl (omega arith));
-    }
+    let tested : p k.result ≡ not held.result = ap (λ (X : Board). test X a.clock k.result) (sym done) ∙ ap not (sym held.ensures) in elim c.if-not-is_tag_held_back.branch [
+      | then-not-is_tag_held_back w ↦ (
+        ap length w.b-is ∙ w.push_asked.auto.b ∙ l.invariant.0,
+        record {
+          still = rw w.b-is w.push_asked.ensures.still;
+          board = ap board_in w.b-is ∙ w.push_asked.ensures.board
+              ∙ ap (λ (X : Board). with_asked X (pushed X.table.room X.asked (k.result % 65536))) done
+              ∙ ap (λ (r : List ℕ). with_asked B r) (clipped_yes p xs n l.i o refl k.result 0 (omega arith) small k.ensures (tested ∙ ap not w.if-not-is_tag_held_back.true));
+        },
+      )
+      | else-not-is_tag_held_back w ↦ (
+        ap length w.b-is ∙ l.invariant.0,
+        record {
+          still = rw w.b-is l.invariant.1.still;
+          board = ap board_in w.b-is ∙ done
+              ∙ ap (λ (r : List ℕ). with_asked B r) (clipped_no p xs n l.i o refl k.result 0 (omega arith) k.ensures (tested ∙ ap not w.if-not-is_tag_held_back.false));
+        },
+      )
+    ]

@@ -1,7 +1,7 @@
 use mathlib.Core.Path.{◌≡◌}
 use mathlib.Core.Bool.{Bool, not}
 use mathlib.Core.List.{List}
-use Prim.Native.Nat.{ℕ, ◌≤◌, ◌-◌}
+use Prim.Native.Nat.{ℕ}
 use lib.Ieee.{Float}
 use lib.ListN.{length, take}
 use Rattle.lists.specs.Keep.{keep}
@@ -19,7 +19,4 @@ kept B clock xs = take B.table.room (keep (test B clock) xs)
 
 abbrev pub invariant-loop-i : goal.invariant-loop-i
 invariant-loop-i l =
-    (l.i ≤ l.n) × ((length l.b ≡ length l.initial.b) × Holds l.b (with_asked (board_in l.initial.b) (kept (board_in l.initial.b) l.clock (take l.i (list_in l.wanted)))))
-
-abbrev pub decreases-loop-i : goal.decreases-loop-i
-decreases-loop-i l = l.n - l.i
+    (length l.b ≡ length l.initial.b) × Holds l.b (with_asked (board_in l.initial.b) (kept (board_in l.initial.b) l.clock (take l.i (list_in l.wanted))))

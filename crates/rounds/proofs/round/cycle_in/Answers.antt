@@ -79,6 +79,6 @@ returns c =
     record {
       tick_is = tick_is B a.o a.c a.clock steps;
       boundary_is = boundary_is B a.o a.c a.clock steps;
-      cycle_is = c.cycle_after-after.ensures ∙ index_is B a.o a.c a.clock steps;
+      cycle_is = c.cycle_after.ensures ∙ index_is B a.o a.c a.clock steps;
       holds = record { still = left.ensures.still; board = board_is B a.o a.c a.clock steps };
     }

@@ -50,13 +50,13 @@ returns-then-any_added c =
           ∙ ap (λ (l : List ℕ). asking (with_records B (map settled tags)) (not_held_back tags l a.clock)) wanted;
     }
 
-pub returns : goal.returns
-returns c =
+pub returns-else-any_added : goal.returns-else-any_added
+returns-else-any_added c =
     let a = c.args in
     let B = board_in a.b.now in
     let tags = B.table.tags in
     let t = c.table_of in
-    let drop = c.drop_missing-2 in
+    let drop = c.drop_missing-else-any_added in
     let wanted = a.wanted.now in
     let none : any_added tags ≡ false = ap any_added (sym (tags_read a.b.now t.result.now t.ensures)) ∙ sym c.any_added.ensures ∙ c.if-any_added.false in
     record {

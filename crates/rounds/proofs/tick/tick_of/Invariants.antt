@@ -1,5 +1,4 @@
 use mathlib.Core.Path.{◌≡◌}
-use Prim.Native.Nat.{◌≤◌, ◌-◌}
 use lib.ListN.{drop}
 use Rattle.tags.specs.Lists.{list_in}
 use Rattle.table.specs.Table.{table_in}
@@ -7,7 +6,4 @@ use Rattle.rounds.specs.Tick.{least_rate}
 use Rattle.rounds.proofs.tick.tick_of.Given as goal
 
 abbrev pub invariant-loop-i : goal.invariant-loop-i
-invariant-loop-i l = (l.i ≤ l.n) × (least_rate (table_in l.t) l.cycle l.cycle (list_in l.order) ≡ least_rate (table_in l.t) l.cycle l.tick (drop l.i (list_in l.order)))
-
-abbrev pub decreases-loop-i : goal.decreases-loop-i
-decreases-loop-i l = l.n - l.i
+invariant-loop-i l = least_rate (table_in l.t) l.cycle l.cycle (list_in l.order) ≡ least_rate (table_in l.t) l.cycle l.tick (drop l.i (list_in l.order))

@@ -1,13 +1,7 @@
 -- `settings::configured::configured_at` meets its contract.
-use mathlib.Core.Path.{sym}
 use native.Mathlib.Omega.{arith}
-use Rattle.settings.proofs.GroupLaws.{length-kept, kept_at, kept_none}
+use Rattle.settings.proofs.GroupLaws.{length-kept, kept_at}
 use Rattle.settings.proofs.configured.configured_at.Goals as goal
-
-pub returns-then-configured_count-i : goal.returns-then-configured_count-i
-returns-then-configured_count-i c =
-    let a = c.args in
-    sym (kept_none a.c.now a.i (omega arith))
 
 pub overflow_mul-i : goal.overflow_mul-i
 overflow_mul-i c = omega (arith, length-kept c.args.c.now)
@@ -24,4 +18,4 @@ overflow_add-i-2 c = omega (arith, length-kept c.args.c.now)
 pub returns : goal.returns
 returns c =
     let a = c.args in
-    rw (c.configured_from.ensures, c.cell-rate.ensures, c.cell-number.ensures) (kept_at a.c.now a.i (omega arith))
+    rw (c.configured_from.ensures, c.cell-2.ensures, c.cell.ensures) (kept_at a.c.now a.i (omega arith))

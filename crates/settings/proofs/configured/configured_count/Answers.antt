@@ -6,5 +6,5 @@ use Rattle.settings.proofs.configured.configured_count.Goals as goal
 pub returns-then-n-room : goal.returns-then-n-room
 returns-then-n-room c = omega (arith, length-kept c.args.c.now)
 
-pub returns : goal.returns
-returns c = omega (arith, length-kept c.args.c.now)
+pub returns-else-n-room : goal.returns-else-n-room
+returns-else-n-room c = omega (arith, length-kept c.args.c.now)

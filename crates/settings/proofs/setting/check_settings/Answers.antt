@@ -1,25 +1,16 @@
 -- `settings::setting::check_settings` meets its contract.
 use Prim.Native.Nat.{◌*◌}
 use native.Mathlib.Omega.{arith}
-use borrow.Author.Tests.{eq-eqb, ne_eqb}
+use borrow.Author.Rules.{rules}
+use borrow.Author.Tests.{eq-eqb}
 use lib.ListN.{length}
-use Rattle.settings.specs.Settings.{settings_ok}
+use Rattle.settings.specs.Records.{records_in}
+use Rattle.settings.specs.Settings.{settings_ok, setting_ok}
+use Rattle.settings.proofs.SettingLaws.{length_settings}
 use Rattle.settings.proofs.setting.check_settings.Goals as goal
-
-pub returns-then-n-count : goal.returns-then-n-count
-unfolding settings_ok
-returns-then-n-count c =
-    let a = c.args in
-    rw (ne_eqb (length a.s.now) (32 * a.count) (λ e. omega arith))
-
-pub returns-then-s-n : goal.returns-then-s-n
-unfolding settings_ok
-returns-then-s-n c =
-    let a = c.args in
-    rw (ne_eqb (length a.s.now) (32 * a.count) (λ e. omega arith))
 
 pub returns : goal.returns
 unfolding settings_ok
 returns c =
     let a = c.args in
-    rw (eq-eqb (length a.s.now) (32 * a.count) (omega arith)) c.check_each.ensures
+    rw (eq-eqb (length a.s.now) (32 * a.count) (omega arith)) (c.check_each.ensures setting_ok (records_in 4 c.args.s.now) (omega (arith, length_settings c.args.s.now)) (λ i r h e. search rules))

@@ -19,4 +19,4 @@ returns c =
     let group = c.cell-group in
     let number : c.if-group-eq0.number ≡ group.result - 1 =
     elim c.if-group-eq0.branch [ then-group-eq0 w ↦ omega (arith, w) | else-group-eq0 w ↦ omega (arith, w) ] in
-    rw (setting_at a.s.now a.i (omega arith), c.settings_from.ensures, number, c.cell-described.ensures, c.cell-rate.ensures, c.cell-group.ensures, c.cell-band.ensures)
+    rw (setting_at a.s.now a.i (omega arith), c.settings_from.ensures, number, c.cell-3.ensures, c.cell-2.ensures, c.cell-group.ensures, c.cell.ensures)

@@ -23,16 +23,7 @@ loop-i-init c =
     let B = board_in c.args.board.now in
     let out = c.args.out.now in
     let xs = B.table.order in
-    (omega arith, (refl, records_none (row_cells B) out xs))
-
-pub overflow_mul-i : goal.overflow_mul-i
-overflow_mul-i c = omega arith
-
-pub overflow_add-i : goal.overflow_add-i
-overflow_add-i c = omega arith
-
-pub loop-i-smaller : goal.loop-i-smaller
-loop-i-smaller c = omega arith
+    (refl, records_none (row_cells B) out xs)
 
 pub loop-i-preserved : goal.loop-i-preserved
 loop-i-preserved c =
@@ -41,21 +32,18 @@ loop-i-preserved c =
     let xs = B.table.order in
     let l = c.loop-i in
     let put = c.put_row in
-    let k = c.order_at-k in
+    let k = c.order_at in
     let n = c.order_count-n in
     let i = l.i in (
-      omega arith,
-      (
-        put.auto.out ∙ l.invariant.1.0,
-        put.ensures
-            ∙ ap (λ (o : List ℕ). record_put o (2 * i) (row_cells B k.result)) l.invariant.1.1
-            ∙ ap (λ (k : ℕ). record_put (over_bytes out (cell_bytes (records (row_cells B) (take i xs)))) (2 * i) (row_cells B k)) k.ensures
-            ∙ put_nth (row_cells B) 2 (λ k. refl) out xs i 0 (omega (arith, n.ensures)) (omega (arith, n.ensures)),
-      ),
+      put.auto.out ∙ l.invariant.0,
+      put.ensures
+          ∙ ap (λ (o : List ℕ). record_put o (2 * i) (row_cells B k.result)) l.invariant.1
+          ∙ ap (λ (k : ℕ). record_put (over_bytes out (cell_bytes (records (row_cells B) (take i xs)))) (2 * i) (row_cells B k)) k.ensures
+          ∙ put_nth (row_cells B) 2 (λ k. refl) out xs i 0 (omega (arith, n.ensures)) (omega (arith, n.ensures)),
     )
 
 pub shape_of-out : goal.shape_of-out
-shape_of-out c = c.loop-i.invariant.1.0
+shape_of-out c = c.loop-i.invariant.0
 
 pub returns : goal.returns
 returns c =
@@ -65,7 +53,7 @@ returns c =
     let l = c.loop-i in
     let n = c.order_count-n in record {
       value = n.ensures;
-      out_after = l.invariant.1.1
+      out_after = l.invariant.1
           ∙ ap (λ (ks : List ℕ). over_bytes out (cell_bytes (records (row_cells B) ks))) (take_all l.i xs (omega (arith, n.ensures)))
           ∙ sym (cells_fit out (records (row_cells B) xs) (omega (arith, length-records (row_cells B) 2 (λ k. refl) xs, n.ensures)));
     }

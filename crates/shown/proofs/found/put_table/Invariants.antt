@@ -1,5 +1,4 @@
 use mathlib.Core.Path.{◌≡◌}
-use Prim.Native.Nat.{◌≤◌, ◌-◌}
 use lib.ListN.{length, take}
 use Rattle.lent.specs.Lent.{cell_bytes, over_bytes, records}
 use Rattle.board.specs.Board.{board_in}
@@ -9,7 +8,4 @@ use Rattle.shown.proofs.found.put_table.Given as goal
 abbrev pub invariant-loop-i : goal.invariant-loop-i
 invariant-loop-i l =
     let B = board_in l.board in
-    (l.i ≤ l.n) × ((length l.out ≡ length l.initial.out) × (l.out ≡ over_bytes l.initial.out (cell_bytes (records (row_cells B) (take l.i B.table.order)))))
-
-abbrev pub decreases-loop-i : goal.decreases-loop-i
-decreases-loop-i l = l.n - l.i
+    (length l.out ≡ length l.initial.out) × (l.out ≡ over_bytes l.initial.out (cell_bytes (records (row_cells B) (take l.i B.table.order))))

@@ -1,6 +1,6 @@
 use mathlib.Core.Path.{◌≡◌}
 use mathlib.Core.List.{List}
-use Prim.Native.Nat.{ℕ, ◌≤◌, ◌-◌}
+use Prim.Native.Nat.{ℕ, ◌≤◌}
 use lib.ListN.{length, take}
 use Rattle.tags.specs.Lists.{list_in}
 use Rattle.settings.specs.Configured.{configured_in}
@@ -11,7 +11,4 @@ abbrev all : List ℕ → List ℕ → List ℕ
 all configured recorded = named (configured_in configured) (list_in recorded)
 
 abbrev pub invariant-loop-i : goal.invariant-loop-i
-invariant-loop-i l = (l.i ≤ l.m) × ((l.n ≤ l.i) × (l.n ≡ length (firsts (take l.i (all l.configured l.recorded)))))
-
-abbrev pub decreases-loop-i : goal.decreases-loop-i
-decreases-loop-i l = l.m - l.i
+invariant-loop-i l = ((l.n ≤ l.i) × (l.n ≡ length (firsts (take l.i (all l.configured l.recorded)))))

@@ -1,6 +1,6 @@
 use mathlib.Core.Path.{◌≡◌}
 use mathlib.Core.List.{List}
-use Prim.Native.Nat.{ℕ, ◌≤◌, ◌-◌}
+use Prim.Native.Nat.{ℕ}
 use lib.ListN.{take, drop}
 use Rattle.tags.specs.Lists.{list_in, member}
 use Rattle.settings.specs.Configured.{configured_in}
@@ -12,7 +12,4 @@ all configured recorded = named (configured_in configured) (list_in recorded)
 
 abbrev pub invariant-loop-j : goal.invariant-loop-j
 invariant-loop-j l =
-    (l.j ≤ l.i) × (member l.group (take l.i (all l.configured l.recorded)) ≡ member l.group (drop l.j (take l.i (all l.configured l.recorded))))
-
-abbrev pub decreases-loop-j : goal.decreases-loop-j
-decreases-loop-j l = l.i - l.j
+    (member l.group (take l.i (all l.configured l.recorded)) ≡ member l.group (drop l.j (take l.i (all l.configured l.recorded))))

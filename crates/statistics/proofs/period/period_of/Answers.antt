@@ -1,9 +1,6 @@
--- `statistics::period::period_of` meets its contract.
 use lib.Ieee.{of_bits, of_int}
-use Rattle.statistics.specs.Period.{period_of}
 use Rattle.statistics.proofs.period.period_of.Goals as goal
 
-pub returns : goal.returns
-unfolding of_bits of_int period_of
-returns c =
-    c.round1.ensures
+pub returns-in-Some-Some : goal.returns-in-Some-Some
+unfolding of_bits of_int
+returns-in-Some-Some c = rw (c.in-Some-Some.is-0, c.in-Some-Some.is-1, c.round1.ensures)

@@ -1,5 +1,5 @@
 -- `statistics::rate::last_rate` meets its contract.
-use mathlib.Core.Path.{refl, ap, sym, ◌∙◌}
+use mathlib.Core.Path.{ap, sym, ◌∙◌}
 use mathlib.Core.Bool.{true, false}
 use Prim.Native.Nat.{ℕ, ◌+◌}
 use native.Mathlib.Omega.{arith}
@@ -11,37 +11,25 @@ use Rattle.statistics.proofs.RateLaws.{rate_more, rate_end}
 use Rattle.statistics.proofs.rate.last_rate.Goals as goal
 use Rattle.statistics.proofs.rate.last_rate.Goals.{else-x-group, then-x-group}
 
-pub loop-i-init : goal.loop-i-init
-loop-i-init c =
-    (omega arith, refl)
-
-pub overflow_add-i : goal.overflow_add-i
-overflow_add-i c = omega arith
-
-pub loop-i-smaller : goal.loop-i-smaller
-loop-i-smaller c = omega arith
-
 pub returns : goal.returns
 returns c =
     let a = c.args in
     let l = c.loop-i in
-    sym (l.invariant.1 ∙ rate_end l.rate (configured_in a.configured.now) a.group l.i (omega arith))
+    sym (l.invariant ∙ rate_end l.rate (configured_in a.configured.now) a.group l.i (omega arith))
 
 pub loop-i-preserved : goal.loop-i-preserved
 loop-i-preserved c =
     let a = c.args in
     let l = c.loop-i in
     let xs = configured_in a.configured.now in
-    let x = c.configured_at-x in (
-      omega arith,
-      elim c.if-x-group.branch [
-        | then-x-group w ↦
-            l.invariant.1
-            ∙ rate_more l.rate xs a.group l.i x.result true (omega arith) x.ensures (eq-eqb _ _ w.if-x-group.true)
-            ∙ ap (λ (r : ℕ). last_rate_from r (drop (l.i + 1) xs) a.group) (sym w.rate-is)
-        | else-x-group w ↦
-            l.invariant.1
-            ∙ rate_more l.rate xs a.group l.i x.result false (omega arith) x.ensures (ne_eqb _ _ w.if-x-group.false)
-            ∙ ap (λ (r : ℕ). last_rate_from r (drop (l.i + 1) xs) a.group) (sym w.rate-is)
-      ],
-    )
+    let x = c.configured_at-x in
+    elim c.if-x-group.branch [
+      | then-x-group w ↦
+          l.invariant
+          ∙ rate_more l.rate xs a.group l.i x.result true (omega arith) x.ensures (eq-eqb _ _ w.if-x-group.true)
+          ∙ ap (λ (r : ℕ). last_rate_from r (drop (l.i + 1) xs) a.group) (sym w.rate-is)
+      | else-x-group w ↦
+          l.invariant
+          ∙ rate_more l.rate xs a.group l.i x.result false (omega arith) x.ensures (ne_eqb _ _ w.if-x-group.false)
+          ∙ ap (λ (r : ℕ). last_rate_from r (drop (l.i + 1) xs) a.group) (sym w.rate-is)
+    ]

@@ -60,6 +60,6 @@ returns c =
     let test : is_empty C.changes ≡ false = sym (empty_is C.changes) ∙ ap (λ (n : ℕ). eqb n 0) (sym made.count_is) ∙ ne_eqb _ _ c.if-n-eq0.false in
     let on = writing N t a.e.progress.after in
     let told = tell (phased N BackTold) (reply.values (length C.changes)) (cell_bytes (changes_in C.board C.changes)) in
-    let r : c.listed-r.result ≡ reply.values (length C.changes) = c.listed-r.ensures ∙ ap (λ (n : ℕ). reply.values n) made.count_is in
+    let r : c.listed.result ≡ reply.values (length C.changes) = c.listed.ensures ∙ ap (λ (n : ℕ). reply.values n) made.count_is in
     done_is told (back_applied W t) _ _ _ _ (ap (λ (b : Bool). cond b on told) (sym test))
     (told_done a.e C.board BackTold (reply.values (length C.changes)) (cell_bytes (changes_in C.board C.changes)) _ _ _ _ (c.phased.ensures ∙ ap (said_in a.e BackTold) r) made.holds.board made.out_is refl)

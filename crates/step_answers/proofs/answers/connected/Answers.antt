@@ -15,9 +15,9 @@ unfolding connected
 returns-then-is_state c B =
     let e = c.args.e in
     let test : is_state e.link Connected ≡ true = sym c.is_state.ensures ∙ c.if-is_state.true in
-    let next : c.with_link-next.result ≡ with_link e (with_attempt e.link 0) =
-    c.with_link-next.ensures ∙ ap (with_link e) c.with_attempt-link.ensures in
-    quiet_is (polls (worker c.with_link-next.result B)) (connected (worker e B)) _ B (simp (next, test)) (c.polls.ensures B)
+    let next : c.with_link.result ≡ with_link e (with_attempt e.link 0) =
+    c.with_link.ensures ∙ ap (with_link e) c.with_attempt-link.ensures in
+    quiet_is (polls (worker c.with_link.result B)) (connected (worker e B)) _ B (simp (next, test)) (c.polls.ensures B)
 
 pub returns : goal.returns
 unfolding connected
@@ -25,8 +25,8 @@ returns c B =
     let e = c.args.e in
     let test : is_state e.link Connected ≡ false = sym c.is_state.ensures ∙ c.if-is_state.false in
     record {
-      head_is = simp (test, c.phased.ensures, c.with_link-next-2.ensures, c.with_state-now.ensures, c.with_attempt-link.ensures);
-      reply_is = simp (test, c.phased.ensures, c.status-r.ensures);
+      head_is = simp (test, c.phased.ensures, c.with_link-next.ensures, c.with_state.ensures, c.with_attempt-link.ensures);
+      reply_is = simp (test, c.phased.ensures, c.status.ensures);
       board_kept = simp test;
       nothing = simp test;
     }

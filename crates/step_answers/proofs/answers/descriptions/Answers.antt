@@ -40,5 +40,5 @@ returns c =
     let same : (board_in c.if-a-eq-DESCRIPTIONS.board).asked ≡ B.asked = ap (λ (x : Board). x.asked) kept in
     let count : y.result ≡ length B.asked = y.ensures.0 ∙ ap (λ (l : List ℕ). length l) same in
     let wrote : y.new.out ≡ wrote_all a.out.now (tag_bytes B.asked) = y.ensures.1 ∙ ap (λ (l : List ℕ). wrote_all a.out.now (tag_bytes l)) same in
-    let r : c.listed-r.result ≡ reply.info (length B.asked) = c.listed-r.ensures ∙ ap (λ (n : ℕ). reply.info n) count in
+    let r : c.listed.result ≡ reply.info (length B.asked) = c.listed.ensures ∙ ap (λ (n : ℕ). reply.info n) count in
     told_done a.e (with_records B known) InfoTold (reply.info (length B.asked)) (tag_bytes B.asked) _ _ _ _ (c.phased.ensures ∙ ap (said_in a.e InfoTold) r) kept wrote refl

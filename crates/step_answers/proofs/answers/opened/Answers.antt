@@ -22,7 +22,7 @@ returns-then-queued-eq0 c =
     let W = worker a.e B in
     let test : is_empty B.queue ≡ true = sym (empty_is B.queue) ∙ ap (λ (n : ℕ). eqb n 0) (sym c.queued.ensures) ∙ eq-eqb _ _ c.if-queued-eq0.true in
     done_is (asks W OpenVersion reply.version) (opened W) _ _ _ _ (ap (λ (b : Bool). cond b (asks W OpenVersion reply.version) (failing W OpenFailedTold)) (sym test))
-    (asked_done a.e B OpenVersion reply.version _ _ _ (c.phased.ensures ∙ ap (said_in a.e OpenVersion) c.listed-r.ensures) refl)
+    (asked_done a.e B OpenVersion reply.version _ _ _ (c.phased.ensures ∙ ap (said_in a.e OpenVersion) c.listed.ensures) refl)
 
 pub returns : goal.returns
 unfolding opened

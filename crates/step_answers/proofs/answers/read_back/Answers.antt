@@ -27,7 +27,7 @@ returns-then-a-eq-LOST c out =
     let lost = asks W LostTold (reply.went_through k Null) in
     let kept = asks (worker a.e (kept_back B list)) OutcomeTold (reply.went_through k (read_back_first list)) in
     done_is lost (read_back W (answer a.a list)) _ _ _ _ (ap (λ (b : Bool). cond b lost kept) (sym test))
-    (asked_done a.e B LostTold (reply.went_through k Null) _ _ out (c.phased.ensures ∙ ap (said_in a.e LostTold) c.went_through-r.ensures) refl)
+    (asked_done a.e B LostTold (reply.went_through k Null) _ _ out (c.phased.ensures ∙ ap (said_in a.e LostTold) c.went_through.ensures) refl)
 
 pub returns : goal.returns
 unfolding read_back
@@ -40,6 +40,6 @@ returns c out =
     let test : eqb a.a.kind 6 ≡ false = ne_eqb _ _ c.if-a-eq-LOST.false in
     let lost = asks W LostTold (reply.went_through k Null) in
     let kept = asks (worker a.e (kept_back B list)) OutcomeTold (reply.went_through k (read_back_first list)) in
-    let r : c.went_through-r-2.result ≡ reply.went_through k (read_back_first list) = c.went_through-r-2.ensures ∙ ap (reply.went_through k) c.read_back_value-value.ensures in
+    let r : c.went_through-r.result ≡ reply.went_through k (read_back_first list) = c.went_through-r.ensures ∙ ap (reply.went_through k) c.read_back_value.ensures in
     done_is kept (read_back W (answer a.a list)) _ _ _ _ (ap (λ (b : Bool). cond b lost kept) (sym test))
     (asked_done a.e (kept_back B list) OutcomeTold (reply.went_through k (read_back_first list)) _ _ out (c.phased-2.ensures ∙ ap (said_in a.e OutcomeTold) r) c.keep_back.ensures.board)

@@ -23,7 +23,7 @@ returns-then-is_state c =
     let B = board_in a.board.now in
     let W = worker a.e B in
     let N = worker (with_stats a.e (reconnected a.e.stats)) B in
-    let next : c.with_stats-tallied.result ≡ N.head = c.with_stats-tallied.ensures ∙ ap (with_stats a.e) c.reconnected-stats.ensures in
+    let next : c.with_stats-tallied.result ≡ N.head = c.with_stats-tallied.ensures ∙ ap (with_stats a.e) c.reconnected.ensures in
     let test : is_state a.e.link Connecting ≡ true = sym c.is_state.ensures ∙ c.if-is_state.true in
     let here : top N ≡ reconnecting W = ap (λ (b : Bool). cond b (top N) (asks (stated N Connecting) ConnectingTold (reply.status Connecting))) (sym test) in
     done_is _ (reconnecting W) _ _ _ _ (ap (λ (x : Engine). top (worker x B)) next ∙ here) c.top.ensures
@@ -35,12 +35,12 @@ returns c =
     let B = board_in a.board.now in
     let W = worker a.e B in
     let N = worker (with_stats a.e (reconnected a.e.stats)) B in
-    let next : c.with_stats-tallied.result ≡ N.head = c.with_stats-tallied.ensures ∙ ap (with_stats a.e) c.reconnected-stats.ensures in
+    let next : c.with_stats-tallied.result ≡ N.head = c.with_stats-tallied.ensures ∙ ap (with_stats a.e) c.reconnected.ensures in
     let test : is_state a.e.link Connecting ≡ false = sym c.is_state.ensures ∙ c.if-is_state.false in
     let E = (stated N Connecting).head in
     let head : c.with_link-next.result ≡ E =
-    c.with_link-next.ensures ∙ ap (λ (x : Engine). with_link x c.with_state-link.result) next ∙ ap (with_link N.head) c.with_state-link.ensures in
-    let said = c.phased.ensures ∙ ap (λ (x : Engine). said_in x ConnectingTold c.status-r.result) head ∙ ap (said_in E ConnectingTold) c.status-r.ensures in
+    c.with_link-next.ensures ∙ ap (λ (x : Engine). with_link x c.with_state.result) next ∙ ap (with_link N.head) c.with_state.ensures in
+    let said = c.phased.ensures ∙ ap (λ (x : Engine). said_in x ConnectingTold c.status.result) head ∙ ap (said_in E ConnectingTold) c.status.ensures in
     done_is (asks (stated N Connecting) ConnectingTold (reply.status Connecting)) (reconnecting W) _ _ _ _
     (ap (λ (b : Bool). cond b (top N) (asks (stated N Connecting) ConnectingTold (reply.status Connecting))) (sym test))
     (asked_done E B ConnectingTold (reply.status Connecting) _ _ _ said refl)

@@ -82,6 +82,6 @@ returns c =
     let on = cond (is_empty C.changes) (reading N t) told in
     let test : eqb a.a.kind 6 ≡ false = ne_eqb _ _ c.if-a-eq-LOST.false in
     let test2 : is_empty C.changes ≡ false = sym (empty_is C.changes) ∙ ap (λ (n : ℕ). eqb n 0) (sym made.count_is) ∙ ne_eqb _ _ c.if-n-eq0.false in
-    let r : c.listed-r.result ≡ reply.values (length C.changes) = c.listed-r.ensures ∙ ap (λ (n : ℕ). reply.values n) made.count_is in
+    let r : c.listed.result ≡ reply.values (length C.changes) = c.listed.ensures ∙ ap (λ (n : ℕ). reply.values n) made.count_is in
     done_is told (results W t A) _ _ _ _ (ap (λ (b : Bool). cond b (reading N t) told) (sym test2) ∙ ap (λ (b : Bool). cond b (down W) on) (sym test))
     (told_done a.e C.board ValuesTold (reply.values (length C.changes)) (cell_bytes (changes_in C.board C.changes)) _ _ _ _ (c.phased.ensures ∙ ap (said_in a.e ValuesTold) r) made.holds.board made.out_is refl)

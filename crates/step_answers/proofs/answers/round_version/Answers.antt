@@ -4,9 +4,9 @@ use mathlib.Core.Bool.{Bool, true, false, cond}
 use lib.IntN.{ℤ}
 use mir.Syntax.{w64}
 use mir.ValLaws.{to_z-of_z}
+use Rattle.std.specs.Prelude.{Option, ℕ}
 use Rattle.heads.specs.Version.{is_reloaded}
 use Rattle.versions.specs.Versions.{version_table}
-use Rattle.heads.specs.declared.version.Version.{Version as Number}
 use Rattle.board.specs.Board.{Board, board_in, with_records}
 use Rattle.heads.specs.Link.{with_version}
 use Rattle.heads.specs.Stats.{reloaded}
@@ -39,18 +39,16 @@ returns-then-is_reloaded c =
     let new : c.number_of-new.result ≡ number = c.number_of-new.ensures list in
     let B2 = with_records B (version_table old number false list B.table.words B.table.tags) in
     let kept : board_in c.check_version.new.b ≡ B2 =
-    c.check_version.ensures.board ∙ ap (λ (v : Number). with_records B (version_table old v false list B.table.words B.table.tags)) new in
+    c.check_version.ensures.board ∙ ap (λ (v : Option ℕ). with_records B (version_table old v false list B.table.words B.table.tags)) new in
     let N = worker (with_link a.e (with_version a.e.link number)) B2 in
     let next : c.with_link-next.result ≡ N.head =
-    c.with_link-next.ensures ∙ ap (with_link a.e) (c.with_version-link.ensures ∙ ap (with_version a.e.link) new) in
+    c.with_link-next.ensures ∙ ap (with_link a.e) (c.with_version.ensures ∙ ap (with_version a.e.link) new) in
     let test : is_reloaded old number ≡ true = sym (c.is_reloaded.ensures ∙ ap (is_reloaded old) new) ∙ c.if-is_reloaded.true in
     let E = with_stats N.head (reloaded a.e.stats) in
     let t = at a.clock a.wall in
     let told = asks (worker E B2) MetaTold reply.meta in
     let on = writing N t Tail in
-    let head : c.with_stats-tallied.result ≡ E =
-    c.with_stats-tallied.ensures ∙ ap (λ (x : Engine). with_stats x c.reloaded-stats.result) next ∙ ap (with_stats N.head) c.reloaded-stats.ensures in
-    let said = c.phased.ensures ∙ ap (λ (x : Engine). said_in x MetaTold c.listed-r.result) head ∙ ap (said_in E MetaTold) c.listed-r.ensures in
+    let said = c.meta.ensures ∙ ap (λ (x : Engine). said_in (with_stats x (reloaded x.stats)) MetaTold reply.meta) next in
     done_is told (round_version W t A) _ _ _ _ (ap (λ (b : Bool). cond b told on) (sym test)) (asked_done E B2 MetaTold reply.meta _ _ _ said kept)
 
 pub returns : goal.returns
@@ -66,10 +64,10 @@ returns c =
     let new : c.number_of-new.result ≡ number = c.number_of-new.ensures list in
     let B2 = with_records B (version_table old number false list B.table.words B.table.tags) in
     let kept : board_in c.check_version.new.b ≡ B2 =
-    c.check_version.ensures.board ∙ ap (λ (v : Number). with_records B (version_table old v false list B.table.words B.table.tags)) new in
+    c.check_version.ensures.board ∙ ap (λ (v : Option ℕ). with_records B (version_table old v false list B.table.words B.table.tags)) new in
     let N = worker (with_link a.e (with_version a.e.link number)) B2 in
     let next : c.with_link-next.result ≡ N.head =
-    c.with_link-next.ensures ∙ ap (with_link a.e) (c.with_version-link.ensures ∙ ap (with_version a.e.link) new) in
+    c.with_link-next.ensures ∙ ap (with_link a.e) (c.with_version.ensures ∙ ap (with_version a.e.link) new) in
     let test : is_reloaded old number ≡ false = sym (c.is_reloaded.ensures ∙ ap (is_reloaded old) new) ∙ c.if-is_reloaded.false in
     let E = with_stats N.head (reloaded a.e.stats) in
     let t = at a.clock a.wall in

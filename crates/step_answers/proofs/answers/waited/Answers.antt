@@ -14,14 +14,14 @@ use Rattle.step_answers.specs.Answers.{waited}
 use borrow.Author.Rules.{rules}
 use Rattle.step_answers.proofs.answers.waited.Goals as goal
 
-pub returns-then-link : goal.returns-then-link
+pub returns-then-e : goal.returns-then-e
 unfolding waited
-returns-then-link c =
+returns-then-e c =
     let a = c.args in
     let W = worker a.e (board_in a.board.now) in
     let t = at a.clock a.wall in
     let fit : SFits w64 a.wall = search rules in
-    let test : a.e.link.stopping ≡ true = c.if-link.true in
+    let test : a.e.link.stopping ≡ true = c.if-e.true in
     let here : writing W t End ≡ waited W t = ap (λ (b : Bool). writing W t (cond b End Idle)) (sym test) in
     done_is _ (waited W t) _ _ _ _ (ap (λ (z : ℤ). writing W (at a.clock z) End) (to_z-of_z fit) ∙ here) c.writing.ensures
 
@@ -32,6 +32,6 @@ returns c =
     let W = worker a.e (board_in a.board.now) in
     let t = at a.clock a.wall in
     let fit : SFits w64 a.wall = search rules in
-    let test : a.e.link.stopping ≡ false = c.if-link.false in
+    let test : a.e.link.stopping ≡ false = c.if-e.false in
     let here : writing W t Idle ≡ waited W t = ap (λ (b : Bool). writing W t (cond b End Idle)) (sym test) in
     done_is _ (waited W t) _ _ _ _ (ap (λ (z : ℤ). writing W (at a.clock z) Idle) (to_z-of_z fit) ∙ here) c.writing-2.ensures

@@ -36,7 +36,7 @@ returns-then-a-eq-WRITTEN c =
     let same : (board_in c.ask_read_back.new.b).asked ≡ asked = ap (λ (x : Board). x.asked) kept in
     let count : y.result ≡ length asked = y.ensures.0 ∙ ap (λ (l : List ℕ). length l) same in
     let wrote : y.new.out ≡ wrote_all a.out.now (tag_bytes asked) = y.ensures.1 ∙ ap (λ (l : List ℕ). wrote_all a.out.now (tag_bytes l)) same in
-    let r : c.listed-r.result ≡ reply.read_back (length asked) = c.listed-r.ensures ∙ ap (λ (n : ℕ). reply.read_back n) count in
+    let r : c.listed.result ≡ reply.read_back (length asked) = c.listed.ensures ∙ ap (λ (n : ℕ). reply.read_back n) count in
     done_is through (written W A) _ _ _ _ (ap (λ (b : Bool). cond b through (cond (eqb a.a.kind 8) refused lost)) (sym test))
     (told_done a.e (with_asked B asked) ReadBack (reply.read_back (length asked)) (tag_bytes asked) _ _ _ _ (c.phased.ensures ∙ ap (said_in a.e ReadBack) r) kept wrote refl)
 
@@ -74,4 +74,4 @@ returns c =
     let test2 : eqb a.a.kind 8 ≡ false = ne_eqb _ _ c.if-a-eq-REFUSED.false in
     done_is lost (written W A) _ _ _ _
     (ap (λ (b : Bool). cond b refused lost) (sym test2) ∙ ap (λ (b : Bool). cond b through (cond (eqb a.a.kind 8) refused lost)) (sym test))
-    (asked_done a.e B LostTold (reply.was_lost k) _ _ _ (c.phased-2.ensures ∙ ap (said_in a.e LostTold) c.was_lost-r.ensures) refl)
+    (asked_done a.e B LostTold (reply.was_lost k) _ _ _ (c.phased-2.ensures ∙ ap (said_in a.e LostTold) c.was_lost.ensures) refl)

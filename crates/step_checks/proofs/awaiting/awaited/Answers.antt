@@ -1,5 +1,6 @@
 -- `step_checks::awaiting::awaited` meets its contract.
 use mathlib.Core.List.{List, [], ◌∷◌}
+use mathlib.Core.Logic.{inl, inr}
 use mathlib.Core.Path.{◌≡◌, refl}
 use Prim.Native.Nat.{ℕ}
 use denote.Enum.Declared.{tag_of}
@@ -53,19 +54,11 @@ returns-in-Connect c = rw c.in-Connect.is
 
 pub returns-in-OpenVersion : goal.returns-in-OpenVersion
 unfolding awaited
-returns-in-OpenVersion c = rw c.in-OpenVersion.is
-
-pub returns-in-Version : goal.returns-in-Version
-unfolding awaited
-returns-in-Version c = rw c.in-Version.is
+returns-in-OpenVersion c = elim c.in-OpenVersion.is [ inl e ↦ rw e | inr e ↦ rw e ]
 
 pub returns-in-Read : goal.returns-in-Read
 unfolding awaited
-returns-in-Read c = rw c.in-Read.is
-
-pub returns-in-ReadBack : goal.returns-in-ReadBack
-unfolding awaited
-returns-in-ReadBack c = rw c.in-ReadBack.is
+returns-in-Read c = elim c.in-Read.is [ inl e ↦ rw e | inr e ↦ rw e ]
 
 pub returns-in-Write : goal.returns-in-Write
 unfolding awaited
@@ -77,15 +70,11 @@ returns-in-Describe c = rw c.in-Describe.is
 
 pub returns-in-Wait : goal.returns-in-Wait
 unfolding awaited
-returns-in-Wait c = rw c.in-Wait.is
-
-pub returns-in-Backoff : goal.returns-in-Backoff
-unfolding awaited
-returns-in-Backoff c = rw c.in-Backoff.is
+returns-in-Wait c = elim c.in-Wait.is [ inl e ↦ rw e | inr e ↦ rw e ]
 
 pub returns-in-Stopped : goal.returns-in-Stopped
 unfolding awaited
 returns-in-Stopped c = rw c.in-Stopped.is
 
 pub returns-in_default : goal.returns-in_default
-returns-in_default c = taken_for c.args.p (opened c.in_default.in_default-own.keys12)
+returns-in_default c = taken_for c.args.p (opened c.in_default.in_default-own.keys9)

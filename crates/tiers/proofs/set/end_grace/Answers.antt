@@ -1,12 +1,12 @@
 -- `tiers::set::end_grace` meets its contract.
+use borrow.Author.Rules.{rules}
 use Rattle.tiers.specs.Tiers.{grace_ended}
-use mathlib.Core.Path.{refl}
 use Rattle.tiers.proofs.set.end_grace.Goals as goal
 
-pub returns-then-on : goal.returns-then-on
+pub returns-in-Some : goal.returns-in-Some
 unfolding grace_ended
-returns-then-on c = simp c.if-on.true c.remove_grace.ensures
+returns-in-Some c = search rules
 
-pub returns-else-on : goal.returns-else-on
+pub returns-in_default : goal.returns-in_default
 unfolding grace_ended
-returns-else-on c = simp c.if-on.false (record { still = c.requires; board = refl })
+returns-in_default c = search rules

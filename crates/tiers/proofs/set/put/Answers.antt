@@ -8,7 +8,7 @@ use Rattle.tiers.proofs.set.put.Goals as goal
 pub returns : goal.returns
 returns c =
     let a = c.args in
-    let bit = c.is_bit-bit in
+    let bit = c.is_bit in
     let old = c.tier_of-old in
     let grace = c.grace_of-grace in
     let added = c.added_set-added in

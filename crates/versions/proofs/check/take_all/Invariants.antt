@@ -1,5 +1,4 @@
 use mathlib.Core.Path.{◌≡◌}
-use Prim.Native.Nat.{◌≤◌, ◌-◌}
 use lib.ListN.{length}
 use lib.Seq.{paste}
 use Rattle.board.specs.Board.{Holds, board_in, with_records}
@@ -8,7 +7,4 @@ use Rattle.versions.proofs.check.take_all.Given as goal
 
 abbrev pub invariant-loop-k : goal.invariant-loop-k
 invariant-loop-k l =
-    (l.k ≤ l.n) × ((length l.b ≡ length l.initial.b) × Holds l.b (with_records (board_in l.initial.b) (paste (board_in l.initial.b).table.tags 0 (table_taken l.changed l.settings (board_in l.initial.b).table.words (board_in l.initial.b).table.tags) l.k)))
-
-abbrev pub decreases-loop-k : goal.decreases-loop-k
-decreases-loop-k l = l.n - l.k
+    (length l.b ≡ length l.initial.b) × Holds l.b (with_records (board_in l.initial.b) (paste (board_in l.initial.b).table.tags 0 (table_taken l.changed l.settings (board_in l.initial.b).table.words (board_in l.initial.b).table.tags) l.k))

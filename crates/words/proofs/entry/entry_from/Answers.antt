@@ -10,5 +10,5 @@ use Rattle.words.proofs.entry.entry_from.Goals as goal
 pub returns : goal.returns
 unfolding entry_from
 returns c =
-    let fit : SFits w64 c.int_of_word-t.result = search rules in
-    simp (to_z-of_z fit ∙ c.int_of_word-t.ensures, c.error_from-error.ensures, c.quality_from-quality.ensures, c.value_from-value.ensures)
+    let fit : SFits w64 c.int_of_word.result = search rules in
+    simp (to_z-of_z fit ∙ c.int_of_word.ensures, c.error_from.ensures, c.quality_from.ensures, c.value_from.ensures)

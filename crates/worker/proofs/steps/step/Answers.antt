@@ -41,7 +41,7 @@ returns-then-n-ne0 c =
     record {
       done =
           done_is told (step W t x room) _ _ _ _ (step-refused W t x room n check (ne_eqb _ _ c.if-n-ne0.true))
-          (quiet_done told _ B a.board.now a.out.now (record { head_is = refl; reply_is = c.refused-r.ensures; board_kept = refl; nothing = refl }) refl);
+          (quiet_done told _ B a.board.now a.out.now (record { head_is = refl; reply_is = c.refused.ensures; board_kept = refl; nothing = refl }) refl);
       kept = λ h. (refl, refl);
     }
 
