@@ -49,6 +49,8 @@ pub fn size_check(n: usize) -> u32
     NOT_AN_ENGINE
 }
 
+// Inline, as `load` is.
+#[inline(always)]
 pub fn head_of(mem: &[u8]) -> Engine
     requires { IsEngine mem.now }
     ensures { result ≡ (worker_in mem.now).head }

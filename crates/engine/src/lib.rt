@@ -96,7 +96,8 @@ pub fn with_clock(e: Engine, clock: f64) -> Engine
     Engine { clock, ..e }
 }
 
-// The head that a row holds.
+// The head that a row holds. Inline, so that a caller decodes only what it reads of it.
+#[inline(always)]
 pub fn load(s: &[u8]) -> Engine
     ensures { result ≡ engine_in s.now }
 {
