@@ -2,3 +2,4 @@
 pub mod Numbers
 pub mod Compare
 pub mod Calls
+pub mod Counts

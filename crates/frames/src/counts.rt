@@ -1,4 +1,7 @@
 // How far a replay has come.
+ghost use Rattle.std.specs.Prelude.{◌≡◌};
+ghost use Rattle.frames.specs.Counts.{next, compared};
+
 use crate::calls::Call;
 use std::fmt;
 
@@ -13,8 +16,10 @@ pub struct Counts {
 
 impl Counts {
     // One call more, or a frame that names none; a creation begins a history.
-    pub fn next(self, call: Option<Call>) -> Counts {
-        let begins = call == Some(Call::Create);
+    pub fn next(self, call: Option<Call>) -> Counts
+        ensures { result ≡ next self call }
+    {
+        let begins = matches!(call, Some(Call::Create));
         Counts {
             histories: self.histories.saturating_add(u64::from(begins)),
             calls: self.calls.saturating_add(1),
@@ -27,7 +32,10 @@ impl Counts {
         }
     }
 
-    pub fn compared(self, n: usize) -> Counts {
+    // So many bytes more.
+    pub fn compared(self, n: usize) -> Counts
+        ensures { result ≡ compared self n }
+    {
         Counts {
             bytes: self.bytes.saturating_add(n as u64),
             ..self

@@ -2,12 +2,12 @@
 use mathlib.Core.Path.{◌≡◌, refl, ap, sym, ◌∙◌}
 use mathlib.Core.Bool.{Bool, true, false, not, ◌&&◌, ◌||◌, cond, true≢false}
 use mathlib.Core.List.{List, [], ◌∷◌, ◌++◌, map}
-use Prim.Native.Nat.{ℕ, zero, suc, ◌+◌, ◌*◌, ◌-◌, ◌%◌, ◌≤◌, ◌<◌, min}
+use Prim.Native.Nat.{ℕ, zero, suc, ◌+◌, ◌*◌, ◌-◌, ◌≤◌, ◌<◌, min}
 use native.Mathlib.Omega.{arith}
 use lib.Dec.{eqb, leb}
 use lib.Ieee.{Float, binary64, of_bits}
 use lib.Ieee.Scale.{finite}
-use lib.ListN.{length, get_or, set, take, length-map}
+use lib.ListN.{length, get_or, take, length-map}
 use lib.Seq.{take_all}
 use borrow.Author.Tests.{eqb-true, ne_eqb, leb-true, le-ltb}
 use Rattle.std.specs.Prelude.{Option, is_some, Some, None}
@@ -168,10 +168,6 @@ module _ (n : ℕ) where
           let a = pushed_more G.recorded_room G.recorded g (omega (arith, short, f.enough)) in
           let b = pushed_more (G.recorded_room + n) G.recorded g (omega (arith, short, f.enough)) in
           rw (e, a, b) (record { fits = record { numbers = fit_one_more G.recorded f.numbers g h z; enough = f.enough }; same = refl })
-
-  either : (b : Bool) (x x' y y' : Groups) → Noted x x' → Noted y y' → Noted (cond b x y) (cond b x' y')
-  either true x x' y y' p q = p
-  either false x x' y y' p q = q
 
   -- Rules 6 and 10: the groups of due tags
   pub due_fits : (tags : List Tag) → Numbered tags → (clock : Float) (seen : List Bool) (G : Groups) → FitGroups G → (ks : List ℕ)
