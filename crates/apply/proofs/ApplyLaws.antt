@@ -10,10 +10,9 @@ use lib.Ieee.{Float}
 use lib.ListN.{length, get_or, set}
 use lib.Seq.{get_or-set_same}
 use Rattle.std.specs.Prelude.{Option, None}
-use Rattle.values.specs.Entry.{quality_of, merged}
+use Rattle.values.specs.Entry.{TagResult, merged}
 use Rattle.values.specs.declared.entry.Quality.{Quality}
 use Rattle.values.specs.declared.entry.Entry.{Entry}
-use Rattle.values.specs.declared.entry.TagResult.{TagResult}
 use Rattle.table.specs.Tag.{fresh_tag}
 use Rattle.table.specs.Table.{with_mark}
 use Rattle.table.specs.declared.tag.Tag.{Tag}
@@ -137,8 +136,8 @@ unfolding applied_at sent_at timing_read cached_over
 applied_again tags k r start t polled p again =
     let x = get_or tags k fresh_tag in
     let e = merged x.cached r t in
-    let clear : with_mark x None ≡ marked x (quality_of r.error) start = ap (λ (q : Quality). marked x q start) (sym again.good) in
-    let same : marked x (quality_of r.error) start ≡ cached_over x.cached (marked x (quality_of r.error) start) e = rw (again.known t) in (
+    let clear : with_mark x None ≡ marked x e.quality start = ap (λ (q : Quality). marked x q start) (sym (again.good t)) in
+    let same : marked x e.quality start ≡ cached_over x.cached (marked x e.quality start) e = rw (again.known t) in (
       rw again.tiered (ap (set tags k) (clear ∙ same ∙ stopped_tag x e start polled p (again.known t))),
       rw again.tiered (sym (stopped_sent x e start polled p (again.known t))),
     )

@@ -5,7 +5,6 @@ use prog.Linked.{Tree, World, Holds, in_world}
 use prog.LinkedThreads.{HasT}
 use prog.Wired.{Code}
 use Rattle.apply.proofs.TheLink as link
-use Rattle.apply.proofs.TheLinks.apply-reading-apply_at
 use Rattle.apply.proofs.TheLinks.apply-reading-apply_result
 
 abbrev pub table : Tree
@@ -16,9 +15,6 @@ Below W = link.Below W
 
 abbrev pub Linked : Code → Type 0
 Linked c = (W : World) → Holds W "apply" table → Below W → HasT (in_world W) true c
-
-pub reading_apply_at : Linked apply-reading-apply_at.code
-reading_apply_at = link.linked-apply::reading::apply_at
 
 pub reading_apply_result : Linked apply-reading-apply_result.code
 reading_apply_result = link.linked-apply::reading::apply_result

@@ -7,19 +7,17 @@ use lib.Dec.{eqb}
 use lib.IntN.{ℤ, pos, negsuc}
 use mir.Val.{to_z}
 use mir.Syntax.{w64}
-use Rattle.std.specs.Prelude.{Option, Some, None}
+use Rattle.std.specs.Prelude.{Option, Some, None, Ok}
 use Rattle.values.specs.Value.{same_value}
-use Rattle.values.specs.Entry.{quality_of, merged}
+use Rattle.values.specs.Entry.{TagResult, merged}
 use Rattle.values.specs.declared.value.Value.TheVariants.{Null, Bool as Flag, Int}
 use Rattle.values.specs.declared.entry.Quality.TheVariants.{Good}
-use Rattle.values.specs.declared.entry.TagResult.{TagResult}
 use Rattle.words.specs.Value.{value_from}
 use Rattle.words.specs.Entry.{entry_from, held_from}
 use Rattle.words.specs.declared.entry.EntryWords.{EntryWords}
 use Rattle.table.specs.declared.tag.Tag.{Tag}
 use Rattle.apply.specs.Apply.{is_same_as}
 use Rattle.apply.specs.Steps.{GoodAs, Repeated}
-use Rattle.values.specs.declared.error.TagError.{TagError}
 use Rattle.values.specs.declared.entry.Entry.{Entry}
 
 -- a value that is no float is the same as itself
@@ -38,11 +36,10 @@ module _ (x : Tag) (w : EntryWords) (kind word : ℕ) (held : held_from w ≡ x.
   pub repeated : (r : TagResult)
       → eqb x.tier 0 ≡ false
       → same_value (value_from kind word) (value_from kind word) ≡ true
-      → r.value ≡ value_from kind word
-      → r.error ≡ None
+      → r ≡ Ok (value_from kind word)
       → Repeated x r
-  repeated r tiered same value error = record {
+  repeated r tiered same value = record {
     tiered = tiered;
-    good = ap (λ (e : Option TagError). quality_of e) error;
-    known = λ t. ap (λ (h : Option Entry). is_same_as h (merged h r t)) good_held ∙ rw (error, value, same);
+    good = λ t. ap (λ (r : TagResult). (merged x.cached r t).quality) value;
+    known = λ t. ap (λ (h : Option Entry). is_same_as h (merged h r t)) good_held ∙ rw (value, same);
   }

@@ -1,11 +1,10 @@
 -- Rule 7: readings applied.
 use Rattle.std.specs.Prelude.{Bool, true, false, not, ◌&&◌, cond, List, ℕ, eqb, ℤ, Float, get_or, set, Option, Some, None}
-use Rattle.values.specs.Entry.{merged, same_entry}
+use Rattle.values.specs.Entry.{TagResult, merged, same_entry}
 use Rattle.values.specs.Deadband.{within_deadband}
 use Rattle.values.specs.declared.entry.Quality.{Quality}
 use Rattle.values.specs.declared.entry.Quality.TheVariants.{Good, Bad, Missing, Stale}
 use Rattle.values.specs.declared.entry.Entry.{Entry}
-use Rattle.values.specs.declared.entry.TagResult.{TagResult}
 use Rattle.table.specs.Tag.{fresh_tag}
 use Rattle.table.specs.declared.tag.Timing.{Timing}
 use Rattle.table.specs.declared.tag.Tag.{Tag}

@@ -1,10 +1,9 @@
 -- Rule 7 in steps: what each of them makes of a tag.
 use Rattle.std.specs.Prelude.{◌≡◌, Bool, true, false, cond, ℕ, eqb, ℤ, Float, Option}
-use Rattle.values.specs.Entry.{quality_of, merged}
+use Rattle.values.specs.Entry.{TagResult, merged}
 use Rattle.values.specs.declared.entry.Quality.{Quality}
 use Rattle.values.specs.declared.entry.Quality.TheVariants.{Good}
 use Rattle.values.specs.declared.entry.Entry.{Entry}
-use Rattle.values.specs.declared.entry.TagResult.{TagResult}
 use Rattle.words.specs.declared.entry.EntryWords.{EntryWords}
 use Rattle.table.specs.Table.{with_timing, with_cached, with_published}
 use Rattle.table.specs.declared.tag.Tag.{Tag}
@@ -35,5 +34,5 @@ pub record GoodAs (w : EntryWords) (kind word : ℕ) : Type 0 where
 -- A good reading that is the same as the cached entry, whatever the wall time. Polled it only clears the mark.
 pub record Repeated (x : Tag) (r : TagResult) : Type 0 where
   pub tiered : eqb x.tier 0 ≡ false
-  pub good : quality_of r.error ≡ Good
+  pub good : (t : ℤ) → (merged x.cached r t).quality ≡ Good
   pub known : (t : ℤ) → is_same_as x.cached (merged x.cached r t) ≡ true

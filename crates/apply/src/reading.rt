@@ -18,6 +18,16 @@ use values::entry::{Entry, Quality, TagResult, merge, same};
 use words::entry::EntryWords;
 use words::scalar::float_of_word;
 
+// When a list of tags was read: `start` is the clock time at which the round began, or that of a read-back, `t` is the wall time, and
+// `polled` is false for a read-back.
+#[derive(Clone, Copy)]
+pub struct ReadAt {
+    pub start: f64,
+    pub t: i64,
+    pub polled: bool,
+}
+
+// Not `h == Some(e)`, which would call std and count the time.
 fn is_same_as(h: Option<Entry>, e: Entry) -> bool
     ensures { result ≡ is_same_as h e }
 {
@@ -79,19 +89,19 @@ fn publish(table: &mut [u8], k: usize, e: Entry, polled: bool) -> bool
 }
 
 // A reading of the tag k. A tag without a tier left the table while it was read, and is skipped.
-pub fn apply_at(table: &mut [u8], k: usize, r: TagResult, start: f64, t: i64, polled: bool) -> bool
-    ensures { (table_in table.new ≡ applied_at (table_in table.old) k r start t polled) × (result ≡ sent_at (table_in table.old) k r t polled) }
+fn apply_at(table: &mut [u8], k: usize, r: TagResult, when: ReadAt) -> bool
+    ensures { (table_in table.new ≡ applied_at (table_in table.old) k r when.start when.t when.polled) × (result ≡ sent_at (table_in table.old) k r when.t when.polled) }
 {
     if tier_of(table, k) == 0 {
         return false;
     }
     let c = cached_of(table, k);
-    let e = merge(c, r, t);
-    mark(table, k, e.quality, start);
-    if cache(table, k, c, e) && polled {
+    let e = merge(c, r, when.t);
+    mark(table, k, e.quality, when.start);
+    if cache(table, k, c, e) && when.polled {
         return false;
     }
-    publish(table, k, e, polled)
+    publish(table, k, e, when.polled)
 }
 
 // Whether the value is the same as itself: a NaN is not.
@@ -123,20 +133,12 @@ fn is_repeat(table: &[u8], k: usize, results: &[u8], i: usize) -> bool
 }
 
 // Result i is a reading of the tag k. Most that are polled bring a value again, and these only clear the mark.
-pub fn apply_result(
-    table: &mut [u8],
-    k: usize,
-    results: &[u8],
-    i: usize,
-    start: f64,
-    t: i64,
-    polled: bool,
-) -> bool
-    ensures { (table_in table.new ≡ applied_at (table_in table.old) k (result_in results.now i) start t polled) × (result ≡ sent_at (table_in table.old) k (result_in results.now i) t polled) }
+pub fn apply_result(table: &mut [u8], k: usize, results: &[u8], i: usize, when: ReadAt) -> bool
+    ensures { (table_in table.new ≡ applied_at (table_in table.old) k (result_in results.now i) when.start when.t when.polled) × (result ≡ sent_at (table_in table.old) k (result_in results.now i) when.t when.polled) }
 {
-    if polled && is_repeat(table, k, results, i) {
+    if when.polled && is_repeat(table, k, results, i) {
         put_mark(table, k, None);
         return false;
     }
-    apply_at(table, k, result_at(results, i), start, t, polled)
+    apply_at(table, k, result_at(results, i), when)
 }

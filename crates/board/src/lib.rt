@@ -1,6 +1,8 @@
 // The board: all that an engine keeps beside its head, in one slice of lent memory, whose length says how many tags it is
 // for. Functions here get or put one thing; each lends one part in its place, as the last thing that it does. Rules are
 // written over them.
+// That the bytes are a board is a clause of each, and not the invariant of a struct over them: once such a struct is let
+// go, nothing is known of what the lent memory holds (docs/DESIGN-PASS.md). So `board` and `out` stay two slices, too.
 #![tactic(auto)]
 
 pub mod parts; // parts handed out to read

@@ -1,6 +1,6 @@
 -- What a call comes to: memory of another length, a refusal, or the work done.
 use mathlib.Core.Path.{◌≡◌, refl, ap, ap₂, sym, ◌∙◌}
-use mathlib.Core.Bool.{Bool, true, false, cond, ◌||◌, true≢false}
+use mathlib.Core.Bool.{Bool, true, false, cond, ◌||◌}
 use mathlib.Core.List.{List, [], ◌∷◌, ◌++◌}
 use Prim.Native.Nat.{ℕ, ◌-◌, ◌≤◌, ◌<◌}
 use native.Mathlib.Omega.{arith}
@@ -9,6 +9,9 @@ use lib.Dec.{eqb, ltb}
 use lib.ListN.{length, take}
 use lib.Seq.{take_all}
 use borrow.Author.Tests.{eqb-true, eqb-false, ltb-false, eq-eqb, ne_eqb, lt-ltb, le-ltb}
+use Rattle.std.specs.Prelude.{Result, Ok, Err}
+use Rattle.refusals.specs.Refusals.{number}
+use Rattle.refusals.specs.declared.Refusal.{Refusal}
 use Rattle.names.specs.Directory.{bad_count, max_names}
 use Rattle.checks.specs.Calls.{max_writes}
 use Rattle.checks.specs.Creation.{Setup, creation_check}
@@ -21,31 +24,34 @@ use Rattle.fresh.specs.Fresh.{configured_room, fresh_board}
 use Rattle.engine.specs.declared.Engine.{Engine}
 use Rattle.lent.specs.Lent.{wrote_all}
 use Rattle.replies.specs.Reply as reply
-use Rattle.replies.specs.Worker.{Worker, Told, At, worker, with_board, tell}
+use Rattle.replies.specs.Reply.{reply_of}
+use Rattle.replies.proofs.DoneLaws.{wrote_nothing}
+use Rattle.replies.proofs.ReplyLaws.{no_refusal}
+use Rattle.replies.specs.declared.at.At.{At}
+use Rattle.replies.specs.Worker.{Worker, Told, worker, with_board, tell}
 use Rattle.replies.specs.declared.reply.Reply.{Reply}
-use Rattle.replies.specs.declared.reply.Said.{Said}
-use Rattle.step_checks.specs.Awaited.{Answer, step_check}
-use Rattle.worker.specs.Steps.{stepped, step, Stepped as StepDone}
-use Rattle.worker.proofs.StepLaws.{stepped_plain}
+use Rattle.replies.specs.declared.response.Said.{Said}
+use Rattle.step_checks.specs.Awaited.{Answer}
+use Rattle.worker.specs.Steps.{step, Stepped as StepDone}
 use Rattle.capi.specs.Memory.{head_size, memory_size, not_an_engine, size_check, IsEngine, board_bytes, worker_in, Called}
 use Rattle.capi.specs.Creation.{creation_answer, fresh_worker, Created}
-use Rattle.capi.proofs.Laws.{size-right, board_put}
+use Rattle.capi.proofs.Laws.{number_some, size-right, board_put}
 use Rattle.capi.specs.Calls.{SteppedBoard, Stepped}
 
-pub alien_call : (bs : List ℕ) (n : ℕ) (W : Worker) → (IsEngine bs → ⊥) → Called bs bs not_an_engine n W
-alien_call bs n W h = record {
-  alien = λ g. refl;
-  code = λ g. absurd (h g);
-  done = λ g e. absurd (h g);
+pub alien_call : (bs : List ℕ) (r : Refusal) (x n : ℕ) (W : Worker) → (IsEngine bs → ⊥) × (number r ≡ not_an_engine) → x ≡ number r → Called bs bs x n W
+alien_call bs r x n W h e = record {
+  alien = λ g. e ∙ h.1;
+  code = λ g. absurd (h.0 g);
+  done = λ g z. absurd (h.0 g);
   kept = λ g. refl;
   long = refl;
 }
 
-pub refused_call : (bs : List ℕ) (r n : ℕ) (W : Worker) → IsEngine bs → r ≡ n → (r ≡ 0 → ⊥) → Called bs bs r n W
-refused_call bs r n W h e z = record {
+pub refused_call : (bs : List ℕ) (r : Refusal) (x n : ℕ) (W : Worker) → IsEngine bs → number r ≡ n → x ≡ number r → Called bs bs x n W
+refused_call bs r x n W h e is = record {
   alien = λ g. absurd (g h);
-  code = λ g. e;
-  done = λ g d. absurd (z (e ∙ d));
+  code = λ g. is ∙ e;
+  done = λ g d. absurd (number_some r (e ∙ d));
   kept = λ g. refl;
   long = refl;
 }
@@ -139,68 +145,61 @@ created_engine s n e = go (eqb (length s.ends) 0) refl (ltb max_names (length s.
 -- ---- steps
 
 -- a step that was done on the board in its part of the memory
-pub step_put : (bs y out out' : List ℕ) (s : Said) (T U : Told) → IsEngine bs → length y ≡ length (board_bytes bs) → T ≡ U
-    → StepDone T s (board_bytes bs) y out out' → SteppedBoard U s bs (put_mid head_size (length bs - head_size) bs y) out out'
-step_put bs y out out' s T U h l e d =
-    let p = board_put bs y h l in
-    record {
-      head_is = d.done.head_is ∙ ap (λ (t : Told). t.left.head) e;
-      board_is = ap (λ (W : Worker). W.board) p ∙ d.done.board_is ∙ ap (λ (t : Told). t.left.board) e;
-      reply_is = d.done.reply_is ∙ ap (λ (t : Told). t.reply) e;
-      out_is = d.done.out_is ∙ ap (λ (t : Told). wrote_all out t.bytes) e;
-      kept = λ z. let k = d.kept z in (ap (λ (x : List ℕ). put_mid head_size (length bs - head_size) bs x) k.0 ∙ put_same head_size (length bs - head_size) bs, k.1);
-    }
+pub step_put : (bs y out out' : List ℕ) (W : Worker) (r : Result Said Refusal) (T : Told) → IsEngine bs → length y ≡ length (board_bytes bs)
+    → StepDone W T r (board_bytes bs) y out out' → SteppedBoard W T r bs (put_mid head_size (length bs - head_size) bs y) out out'
+unfolding StepDone SteppedBoard
+step_put bs y out out' W (Ok s) T h l d = record {
+  head_is = d.head_is;
+  board_is = ap (λ (x : Worker). x.board) (board_put bs y h l) ∙ d.board_is;
+  reply_is = d.reply_is;
+  out_is = d.out_is;
+}
+step_put bs y out out' W (Err r) T h l d =
+    (d.0, ap (λ (x : List ℕ). put_mid head_size (length bs - head_size) bs x) d.1 ∙ put_same head_size (length bs - head_size) bs, d.2)
 
-pub alien_step : (bs out : List ℕ) (r : Reply) (T : Told) → (IsEngine bs → ⊥) → r ≡ reply.refused not_an_engine → Stepped bs bs r out out T
-alien_step bs out r T h e = record {
-  alien = λ g. e;
-  reply_is = λ g. absurd (h g);
-  left_is = λ g. absurd (h g);
-  out_is = λ g. absurd (h g);
+pub alien_step : (bs out : List ℕ) (r : Refusal) (x : Reply) (T : Told) → (IsEngine bs → ⊥) × (number r ≡ not_an_engine) → x ≡ reply.refused (number r) → Stepped bs bs x out out T
+alien_step bs out r x T h e = record {
+  alien = λ g. e ∙ ap (λ (n : ℕ). reply.refused n) h.1;
+  reply_is = λ g. absurd (h.0 g);
+  left_is = λ g. absurd (h.0 g);
+  out_is = λ g. absurd (h.0 g);
   kept = λ g. (refl, refl);
   long = refl;
 }
 
--- a refused step leaves the engine as it was
-left_same : (W : Worker) (at : At) (a : Answer) (n : ℕ) → eqb (step W at a n).reply.code 0 ≡ false → (step W at a n).left ≡ W
-unfolding step
-left_same W at a n z = go (eqb (step_check W at a n) 0) refl z
-  where
-    go : (b : Bool) → eqb (step_check W at a n) 0 ≡ b → eqb (cond b (stepped W at a) (tell W (reply.refused (step_check W at a n)) [])).reply.code 0 ≡ false
-        → (cond b (stepped W at a) (tell W (reply.refused (step_check W at a n)) [])).left ≡ W
-    go true e q = let p : eqb (stepped W at a).reply.code 0 ≡ true = rw (stepped_plain W at a).accepted refl in absurd (true≢false (sym p ∙ q))
-    go false e q = refl
+module _ (bs new out out' : List ℕ) (e : Engine) (at : At) (a : Answer) (h : IsEngine bs) (head : e ≡ (worker_in bs).head) where
+  abbrev W : Worker
+  W = worker e (worker_in bs).board
 
-module _ (bs new out out' : List ℕ) (s : Said) (e : Engine) (at : At) (a : Answer) (h : IsEngine bs) (head : e ≡ (worker_in bs).head) where
   abbrev T : Told
   T = step (worker_in bs) at a (length out)
 
-  module _ (d : SteppedBoard (step (worker e (worker_in bs).board) at a (length out)) s bs new out out') where
-    same : step (worker e (worker_in bs).board) at a (length out) ≡ T
-    same = ap (λ (x : Engine). step (worker x (worker_in bs).board) at a (length out)) head
+  same : step W at a (length out) ≡ T
+  same = ap (λ (x : Engine). step (worker x (worker_in bs).board) at a (length out)) head
 
-    reply_same : s.reply ≡ T.reply
-    reply_same = d.reply_is ∙ ap (λ (t : Told). t.reply) same
+  -- a refused step leaves the engine as it was
+  pub refused_step : (r : Refusal) (x : Reply) → SteppedBoard W (step W at a (length out)) (Err r) bs new out out' → x ≡ reply.refused (number r) → Stepped bs new x out out' T
+  unfolding SteppedBoard
+  refused_step r x d is =
+      let told : tell W (reply.refused (number r)) [] ≡ T = sym d.0 ∙ same in
+      record {
+        alien = λ g. absurd (g h);
+        reply_is = λ g. is ∙ ap (λ (t : Told). t.reply) told;
+        left_is = λ g. ap worker_in d.1 ∙ (ap (λ (y : Engine). worker y (worker_in bs).board) (sym head) ∙ ap (λ (t : Told). t.left) told);
+        out_is = λ g. d.2 ∙ (sym (wrote_nothing out) ∙ ap (λ (t : Told). wrote_all out t.bytes) told);
+        kept = λ g. (d.1, d.2);
+        long = ap (λ (l : List ℕ). length l) d.1;
+      }
 
-    pub refused-step : (s.reply.code ≡ 0 → ⊥) → length new ≡ length bs → Stepped bs new s.reply out out' T
-    refused-step z l =
-        let z' : eqb s.reply.code 0 ≡ false = ne_eqb _ _ z in
-        let k = d.kept z' in
-        record {
-          alien = λ g. absurd (g h);
-          reply_is = λ g. reply_same;
-          left_is = λ g. ap worker_in k.0 ∙ sym (left_same (worker_in bs) at a (length out) (ap (λ (r : Reply). eqb r.code 0) (sym reply_same) ∙ z'));
-          out_is = λ g. d.out_is ∙ ap (λ (t : Told). wrote_all out t.bytes) same;
-          kept = λ g. k;
-          long = l;
-        }
-
-    pub done_step : (last : List ℕ) → s.reply.code ≡ 0 → worker_in last ≡ worker s.head (worker_in new).board → length last ≡ length bs → Stepped bs last s.reply out out' T
-    done_step last z w l = record {
-      alien = λ g. absurd (g h);
-      reply_is = λ g. reply_same;
-      left_is = λ g. w ∙ ap₂ {C = Worker} worker d.head_is d.board_is ∙ ap (λ (t : Told). t.left) same;
-      out_is = λ g. d.out_is ∙ ap (λ (t : Told). wrote_all out t.bytes) same;
-      kept = λ g. absurd (g z);
-      long = l;
-    }
+  -- what an accepted one gives is no refusal
+  pub done_step : (s : Said) (x : Reply) (last : List ℕ) → SteppedBoard W (step W at a (length out)) (Ok s) bs new out out' → x ≡ reply_of s.response
+      → worker_in last ≡ worker s.head (worker_in new).board → length last ≡ length bs → Stepped bs last x out out' T
+  unfolding SteppedBoard
+  done_step s x last d is w l = record {
+    alien = λ g. absurd (g h);
+    reply_is = λ g. is ∙ (d.reply_is ∙ ap (λ (t : Told). t.reply) same);
+    left_is = λ g. w ∙ ap₂ {C = Worker} worker d.head_is d.board_is ∙ ap (λ (t : Told). t.left) same;
+    out_is = λ g. d.out_is ∙ ap (λ (t : Told). wrote_all out t.bytes) same;
+    kept = λ g. absurd (g (ap (λ (r : Reply). r.code) is ∙ no_refusal s.response));
+    long = l;
+  }

@@ -1,6 +1,6 @@
 -- Memory by its length, and the head and the board in one memory: a part lent and given back holds what it was given, and the other what it held.
 use mathlib.Core.Path.{◌≡◌, refl, ap, ap₂, sym, subst, ◌∙◌}
-use mathlib.Core.Bool.{Bool, true, false, cond, ◌&&◌, true≢false}
+use mathlib.Core.Bool.{Bool, true, false, cond, ◌&&◌, true≢false, false≢true}
 use mathlib.Core.List.{List}
 use Prim.Native.Nat.{ℕ, ◌+◌, ◌-◌, ◌≤◌, ◌<◌}
 use native.Mathlib.Omega.{arith}
@@ -8,6 +8,10 @@ use borrow.Author.Tests.{eqb-true, leb-true, eq-eqb, le-leb}
 use borrow.Rule.Slice.PartMut.{put_mid, same_len_mid}
 use lib.Dec.{eqb, leb}
 use lib.ListN.{length}
+use Rattle.std.specs.Prelude.{⊤, Result, Ok, Err}
+use Rattle.refusals.specs.Refusals.{number, code}
+use Rattle.refusals.specs.declared.Refusal.{Refusal}
+use Rattle.refusals.proofs.Laws.{not_zero}
 use Rattle.names.specs.Directory.{max_names}
 use Rattle.layout.specs.Parts.{part}
 use Rattle.layout.proofs.PartLaws.{part_length, part_same, part_before, part-after}
@@ -28,6 +32,22 @@ both false b e = absurd (true≢false (sym e))
 passed : (b : Bool) → ◌≡◌ {A = ℕ} (cond b 0 not_an_engine) 0 → b ≡ true
 passed true e = refl
 passed false e = absurd (omega (arith, e))
+
+-- memory that is refused by its length is no engine's, and is answered with the number of that
+pub number_some : (r : Refusal) → number r ≡ 0 → ⊥
+number_some r e = false≢true (sym (not_zero r) ∙ ap (λ (n : ℕ). eqb n 0) e)
+
+pub alien_size : (n : ℕ) (x : Result ⊤ Refusal) (r : Refusal) → code x ≡ size_check n → x ≡ Err r → (size_check n ≡ 0 → ⊥) × (number r ≡ not_an_engine)
+unfolding size_check
+alien_size n x r e is = go (is_size n) (ap (λ (y : Result ⊤ Refusal). code y) (sym is) ∙ e)
+  where
+    go : (b : Bool) → number r ≡ cond b 0 not_an_engine → (cond b 0 not_an_engine ≡ 0 → ⊥) × (number r ≡ not_an_engine)
+    go true h = absurd (number_some r h)
+    go false h = (λ z. omega (arith, z), h)
+
+-- and memory that passes is one's
+pub own_size : (n : ℕ) (x : Result ⊤ Refusal) (u : ⊤) → code x ≡ size_check n → x ≡ Ok u → size_check n ≡ 0
+own_size n x u e is = sym e ∙ ap (λ (y : Result ⊤ Refusal). code y) is
 
 -- what a board's size says
 board_size_lem : (n : ℕ) → is_board_size n ≡ true → (n ≡ board_size (tags_for n)) × ((1 ≤ tags_for n) × (tags_for n ≤ max_names))

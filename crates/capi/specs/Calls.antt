@@ -1,5 +1,7 @@
 -- Tier calls, loads, writes, stops and steps.
-use Rattle.std.specs.Prelude.{false, List, [], ◌∷◌, ◌++◌, ◌≡◌, ℕ, eqb, Float, length}
+use Rattle.std.specs.Prelude.{List, [], ◌∷◌, ◌++◌, ◌≡◌, ℕ, Float, length, Result, Ok, Err}
+use Rattle.refusals.specs.Refusals.{number}
+use Rattle.refusals.specs.declared.Refusal.{Refusal}
 use Rattle.values.specs.declared.value.Value.{Value}
 use Rattle.tiers.specs.Tiers.{set_tier}
 use Rattle.panel.specs.Panel.{loaded_list}
@@ -9,10 +11,12 @@ use Rattle.engine.specs.Engine.{with_clock}
 use Rattle.lent.specs.Lent.{wrote_all}
 use Rattle.board.specs.Board.{with_table, with_queue}
 use Rattle.replies.specs.Reply as reply
-use Rattle.replies.specs.Worker.{Worker, Told, worker, with_board, linked}
+use Rattle.replies.specs.Reply.{reply_of}
+use Rattle.replies.specs.Worker.{Worker, Told, tell, worker, with_board, linked}
 use Rattle.replies.specs.declared.reply.Reply.{Reply}
-use Rattle.replies.specs.declared.reply.Said.{Said}
+use Rattle.replies.specs.declared.response.Said.{Said}
 use Rattle.step_checks.specs.Awaited.{Answer}
+use Rattle.step_checks.specs.Kinds.{kind_from}
 use Rattle.capi.specs.Memory.{IsEngine, not_an_engine, worker_in}
 
 -- Rule 5: a tier call that is accepted
@@ -36,15 +40,19 @@ halted W = linked W (stopped W.head.link)
 
 -- Rule 9: an answer of the host
 abbrev pub answer_of : ℕ → ℕ → ℕ → List ℕ → Answer
-answer_of kind number message list = record { kind = kind; number = number; message = message; list = list }
+answer_of kind number message list = record { kind = kind_from kind number message; list = list }
 
--- A step on the board that came to T; the head is in the answer, and not stored yet. A refusal writes nothing.
-pub record SteppedBoard (T : Told) (s : Said) (old new out out' : List ℕ) : Type 0 where
+-- A step on the board that came to T; the head is in the answer, and not stored yet.
+pub record Answered (T : Told) (s : Said) (new out out' : List ℕ) : Type 0 where
   pub head_is : s.head ≡ T.left.head
   pub board_is : (worker_in new).board ≡ T.left.board
-  pub reply_is : s.reply ≡ T.reply
+  pub reply_is : reply_of s.response ≡ T.reply
   pub out_is : out' ≡ wrote_all out T.bytes
-  pub kept : eqb s.reply.code 0 ≡ false → (new ≡ old) × (out' ≡ out)
+
+-- What a step of the engine W on the board did: T. Where it was refused, T is the refusal, and no byte was written.
+unfoldable pub SteppedBoard : Worker → Told → Result Said Refusal → List ℕ → List ℕ → List ℕ → List ℕ → Type 0
+SteppedBoard W T (Ok s) old new out out' = Answered T s new out out'
+SteppedBoard W T (Err r) old new out out' = (T ≡ tell W (reply.refused (number r)) []) × (new ≡ old) × (out' ≡ out)
 
 -- A step that came to T. A refusal writes nothing. Memory keeps its length.
 pub record Stepped (old new : List ℕ) (r : Reply) (out out' : List ℕ) (T : Told) : Type 0 where

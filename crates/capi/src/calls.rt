@@ -8,28 +8,28 @@ ghost use Rattle.checks.specs.Calls.{tier_check, load_check, write_check};
 ghost use Rattle.capi.specs.Calls.{tiered, loaded, wrote, halted, answer_of, Stepped};
 
 use super::whole::{
-    NOT_AN_ENGINE, head_of, load_check, load_panel, push_write, put_clock, put_head, set_tier,
-    size_check, write_check,
+    head_of, load_check, load_panel, push_write, put_clock, put_head, set_tier, size_check,
+    write_check,
 };
 use checks::calls::tier_check;
 use engine::with_link;
 use heads::link::stopped;
 use queue::Write;
+use replies::at::At;
 use replies::reply::Reply;
-use step_checks::awaiting::Answer;
+use step_checks::answer::{Answer, kind_from};
 use words::value::value_from;
 
 // A tier call.
 pub fn wz_set_tier(mem: &mut [u8], clock: f64, tag: u32, tier: u32) -> u32
     ensures { Called mem.old mem.new result (tier_check (worker_in mem.old) clock tag tier) (tiered (worker_in mem.old) clock tag tier) }
 {
-    if size_check(mem.len()) != 0 {
-        return NOT_AN_ENGINE;
+    if let Err(refusal) = size_check(mem.len()) {
+        return refusal.number();
     }
     let e = head_of(mem);
-    let n = tier_check(e, clock, tag, tier);
-    if n != 0 {
-        return n;
+    if let Err(refusal) = tier_check(e, clock, tag, tier) {
+        return refusal.number();
     }
     set_tier(mem, tag as u16, tier as u8, e.options.grace, clock);
     put_clock(mem, clock);
@@ -40,13 +40,12 @@ pub fn wz_set_tier(mem: &mut [u8], clock: f64, tag: u32, tier: u32) -> u32
 pub fn wz_load(mem: &mut [u8], clock: f64, list: &[u8]) -> u32
     ensures { Called mem.old mem.new result (load_check (worker_in mem.old) clock list.now) (loaded (worker_in mem.old) clock list.now) }
 {
-    if size_check(mem.len()) != 0 {
-        return NOT_AN_ENGINE;
+    if let Err(refusal) = size_check(mem.len()) {
+        return refusal.number();
     }
     let e = head_of(mem);
-    let n = load_check(mem, e, clock, list);
-    if n != 0 {
-        return n;
+    if let Err(refusal) = load_check(mem, e, clock, list) {
+        return refusal.number();
     }
     load_panel(mem, list, e.options.grace, clock);
     put_clock(mem, clock);
@@ -57,13 +56,12 @@ pub fn wz_load(mem: &mut [u8], clock: f64, list: &[u8]) -> u32
 pub fn wz_write(mem: &mut [u8], tag: u32, kind: u64, word: u64) -> u32
     ensures { Called mem.old mem.new result (write_check (worker_in mem.old) tag (value_from kind word)) (wrote (worker_in mem.old) tag (value_from kind word)) }
 {
-    if size_check(mem.len()) != 0 {
-        return NOT_AN_ENGINE;
+    if let Err(refusal) = size_check(mem.len()) {
+        return refusal.number();
     }
     let value = value_from(kind, word);
-    let n = write_check(mem, tag, value);
-    if n != 0 {
-        return n;
+    if let Err(refusal) = write_check(mem, tag, value) {
+        return refusal.number();
     }
     let w = Write {
         tag: tag as u16,
@@ -77,8 +75,8 @@ pub fn wz_write(mem: &mut [u8], tag: u32, kind: u64, word: u64) -> u32
 pub fn wz_stop(mem: &mut [u8]) -> u32
     ensures { Called mem.old mem.new result 0 (halted (worker_in mem.old)) }
 {
-    if size_check(mem.len()) != 0 {
-        return NOT_AN_ENGINE;
+    if let Err(refusal) = size_check(mem.len()) {
+        return refusal.number();
     }
     let e = head_of(mem);
     let link = stopped(e.link);
@@ -99,19 +97,19 @@ pub fn wz_step(
 ) -> Reply
     ensures { Stepped mem.old mem.new result out.old out.new (step (worker_in mem.old) (at clock wall) (answer_of kind number message list.now) (length out.old)) }
 {
-    if size_check(mem.len()) != 0 {
-        return Reply::refused(NOT_AN_ENGINE as u64);
+    if let Err(refusal) = size_check(mem.len()) {
+        return Reply::refused(refusal);
     }
     let e = head_of(mem);
     let a = Answer {
-        kind,
-        number,
-        message,
+        kind: kind_from(kind, number, message),
+        list,
     };
-    let s = super::whole::step(mem, out, e, a, list, clock, wall);
-    if s.reply.code != 0 {
-        return s.reply;
+    match super::whole::step(mem, out, e, a, At { clock, wall }) {
+        Ok(s) => {
+            put_head(mem, s.head);
+            s.response.reply()
+        }
+        Err(refusal) => Reply::refused(refusal),
     }
-    put_head(mem, s.head);
-    s.reply
 }

@@ -1,4 +1,5 @@
-// An engine's memory: the head in front, the board behind it. Each rule is lent its own part.
+// An engine's memory: the head in front, the board behind it. Each rule is lent its own part. That the memory is an engine's
+// is a clause of each function, for the reason that `board` gives.
 ghost use Rattle.std.specs.Prelude.{◌≡◌, ◌≤◌, length, take};
 ghost use Rattle.engine.specs.Engine.{with_clock};
 ghost use Rattle.tiers.specs.Tiers.{set_tier};
@@ -8,7 +9,8 @@ ghost use Rattle.queue.specs.Queue.{queued_with, write_room};
 ghost use Rattle.board.specs.Layout.{IsBoard};
 ghost use Rattle.board.specs.Board.{with_table, with_queue, with_configured};
 ghost use Rattle.fresh.specs.Fresh.{configured_room, fresh_board};
-ghost use Rattle.replies.specs.Worker.{worker, with_board, at};
+ghost use Rattle.refusals.specs.Refusals.{code};
+ghost use Rattle.replies.specs.Worker.{worker, with_board};
 ghost use Rattle.step_checks.specs.Awaited.{answer};
 ghost use Rattle.worker.specs.Steps.{step};
 ghost use Rattle.checks.specs.Calls.{load_check, write_check};
@@ -18,15 +20,16 @@ ghost use Rattle.capi.specs.Calls.{SteppedBoard};
 
 use board::starts::{is_board_size, size_for};
 use engine::{Engine, load, store};
+use names::directory::Directory;
 use queue::Write;
-use replies::reply::Said;
-use step_checks::awaiting::Answer;
+use refusals::Refusal;
+use replies::at::At;
+use replies::response::Said;
+use step_checks::answer::Answer;
 use values::value::Value;
 
-// The bytes of the head, and the answer to memory that no engine has the length of.
+// The bytes of the head.
 const HEAD: usize = 256;
-
-pub const NOT_AN_ENGINE: u32 = 100;
 
 // How many bytes an engine of so many tags has.
 pub fn memory_size(count: usize) -> usize
@@ -36,17 +39,17 @@ pub fn memory_size(count: usize) -> usize
     HEAD + size_for(count)
 }
 
-// 0 where an engine has n bytes. Each entry point asks this first, and answers a refusal in a type of its own.
-pub fn size_check(n: usize) -> u32
-    ensures { result ≡ size_check n }
+// Whether an engine has n bytes. Each entry point asks this first, and answers a refusal in a type of its own.
+pub fn size_check(n: usize) -> Result<(), Refusal>
+    ensures { code result ≡ size_check n }
 {
     if n < HEAD {
-        return NOT_AN_ENGINE;
+        return Err(Refusal::NotAnEngine);
     }
     if is_board_size(n - HEAD) {
-        return 0;
+        return Ok(());
     }
-    NOT_AN_ENGINE
+    Err(Refusal::NotAnEngine)
 }
 
 // Inline, as `load` is.
@@ -80,16 +83,16 @@ pub fn put_clock(mem: &mut [u8], clock: f64)
     engine::put_clock(&mut mem[0..HEAD], clock);
 }
 
-pub fn load_check(mem: &[u8], e: Engine, clock: f64, list: &[u8]) -> u32
+pub fn load_check(mem: &[u8], e: Engine, clock: f64, list: &[u8]) -> Result<(), Refusal>
     requires { IsEngine mem.now }
-    ensures { result ≡ load_check (worker e (worker_in mem.now).board) clock list.now }
+    ensures { code result ≡ load_check (worker e (worker_in mem.now).board) clock list.now }
 {
     checks::calls::load_check(board_of(mem), e, clock, list)
 }
 
-pub fn write_check(mem: &[u8], tag: u32, value: Value) -> u32
+pub fn write_check(mem: &[u8], tag: u32, value: Value) -> Result<(), Refusal>
     requires { IsEngine mem.now }
-    ensures { result ≡ write_check (worker_in mem.now) tag value }
+    ensures { code result ≡ write_check (worker_in mem.now) tag value }
 {
     let e = head_of(mem);
     checks::calls::write_check(board_of(mem), e, tag, value)
@@ -119,29 +122,27 @@ pub fn push_write(mem: &mut [u8], w: Write)
     board::waiting::push_write(&mut mem[HEAD..end], w);
 }
 
-pub fn create<'a>(mem: &mut [u8], names: &'a [u8], ends: &'a [u32], settings: &[u8], groups: &[u8])
-    requires mem_len { length mem.old ≡ memory_size (length ends.now) }
-    requires in_bounds { 1 ≤ length ends.now }
-    requires ends_len_bound { length ends.now ≤ max_names }
-    ensures { (worker_in mem.new).board ≡ with_configured (fresh_board names.now ends.now settings.now groups.now) (take configured_room (given_groups groups.now)) }
+pub fn create<'a>(mem: &mut [u8], directory: Directory<'a>, settings: &[u8], groups: &[u8])
+    requires mem_len { length mem.old ≡ memory_size (length directory.ends.now) }
+    requires in_bounds { 1 ≤ length directory.ends.now }
+    requires ends_len_bound { length directory.ends.now ≤ max_names }
+    ensures { (worker_in mem.new).board ≡ with_configured (fresh_board directory.entry.names.now directory.entry.ends.now settings.now groups.now) (take configured_room (given_groups groups.now)) }
 {
     let end = mem.len();
-    fresh::create(&mut mem[HEAD..end], names, ends, settings, groups);
+    fresh::create(&mut mem[HEAD..end], directory, settings, groups);
 }
 
 // A step on the board; the head that it leaves is in the answer, and not stored yet.
-pub fn step(
+pub fn step<'a>(
     mem: &mut [u8],
     out: &mut [u8],
     e: Engine,
-    a: Answer,
-    list: &[u8],
-    clock: f64,
-    wall: i64,
-) -> Said
+    a: Answer<'a>,
+    at: At,
+) -> Result<Said, Refusal>
     requires { IsEngine mem.old }
-    ensures { SteppedBoard (step (worker e (worker_in mem.old).board) (at clock wall) (answer a list.now) (length out.old)) result mem.old mem.new out.old out.new }
+    ensures { SteppedBoard (worker e (worker_in mem.old).board) (step (worker e (worker_in mem.old).board) at (answer a.entry) (length out.old)) result mem.old mem.new out.old out.new }
 {
     let end = mem.len();
-    worker::steps::step(&mut mem[HEAD..end], out, e, a, list, clock, wall)
+    worker::steps::step(&mut mem[HEAD..end], out, e, a, at)
 }

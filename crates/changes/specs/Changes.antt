@@ -1,5 +1,7 @@
 -- The changes that a list of cells holds, nine cells each, as `lent` writes them.
-use Rattle.std.specs.Prelude.{List, [], ◌∷◌, ◌++◌, ℕ, zero, suc, ◌+◌, ◌*◌, ◌%◌, min, pos, get_or, Option, Some, None}
+use Rattle.std.specs.Prelude.{⊤, List, [], ◌∷◌, ◌++◌, ℕ, zero, suc, ◌+◌, ◌*◌, ◌%◌, min, pos, length, get_or, cond, ltb, Option, Some, None, Result, Ok, Err}
+use Rattle.refusals.specs.declared.Refusal.{Refusal}
+use Rattle.refusals.specs.declared.Refusal.TheVariants.{ListRoom}
 use Rattle.values.specs.declared.value.Value.TheVariants.{Null}
 use Rattle.values.specs.declared.entry.Quality.TheVariants.{Good}
 use Rattle.values.specs.declared.entry.Entry.{Entry}
@@ -40,3 +42,7 @@ changes_from cells (suc n) = changes_from cells n ++ (change_in cells n ∷ [])
 -- the changes of a values event that has n, from the bytes of its list; there are never more than tags
 abbrev pub told : List ℕ → ℕ → List Change
 told list n = changes_from (cells_in list) (min n max_names)
+
+-- the refusal of a run with fewer places than a directory has names at most
+abbrev pub answer : List Change → Result ⊤ Refusal
+answer out = cond (ltb (length out) max_names) (Err ListRoom) (Ok tt)

@@ -3,18 +3,20 @@
 // run by value.
 #![tactic(auto)]
 
-ghost use Rattle.std.specs.Prelude.{◌≡◌, ◌≤◌, ◌<◌, min, get_or, take};
+ghost use Rattle.std.specs.Prelude.{◌≡◌, ◌<◌, min, get_or};
 ghost use Rattle.memory.specs.Cells.{cells_in};
 ghost use Rattle.names.specs.Directory.{max_names};
-ghost use Rattle.runs.specs.Run.{over, filled, answer};
-ghost use Rattle.changes.specs.Changes.{no_change, change_in, told};
+ghost use Rattle.runs.specs.Run.{over, filled};
+ghost use Rattle.changes.specs.Changes.{change_in, told, answer};
 
+use arrayvec::ArrayVec;
 use memory::cells::cell;
 use names::directory::MAX_NAMES;
+use refusals::Refusal;
 use runs::{at, fill};
 use values::entry::{Entry, Quality};
 use values::value::Value;
-use words::entry::{EntryWords, entry_from};
+use words::entry::EntryWords;
 
 #[derive(Clone, Copy)]
 pub struct Change {
@@ -22,17 +24,14 @@ pub struct Change {
     pub entry: Entry,
 }
 
-// The first `n` of the items: without a heap, a run of changes has room for a whole directory, and its length beside it.
-#[derive(Clone, Copy)]
-struct Told {
-    items: [Change; MAX_NAMES],
-    n: usize,
-}
+// A change that is not there.
+impl Default for Change {
+    ghost use Rattle.std.specs.Prelude.{◌≡◌};
+    ghost use Rattle.changes.specs.Changes.{no_change};
 
-impl Change {
-    pub fn none() -> Change
-        ensures { result ≡ no_change }
-    {
+    ghost is_default = { λ change. change ≡ no_change };
+
+    fn default() -> Change {
         let entry = Entry {
             value: Value::Null,
             quality: Quality::Good,
@@ -49,7 +48,7 @@ fn change_in(list: &[u8], i: usize) -> Change
     ensures { result ≡ change_in (cells_in list.now) i }
 {
     let p = 9 * i;
-    let entry = entry_from(EntryWords {
+    let entry = Entry::from(EntryWords {
         held: cell(list, p + 1),
         kind: cell(list, p + 2),
         word: cell(list, p + 3),
@@ -63,33 +62,23 @@ fn change_in(list: &[u8], i: usize) -> Change
     }
 }
 
-// The first n changes of a list.
-fn changes_in(list: &[u8], n: usize) -> Told
-    ensures { (result.n ≡ min n max_names) × (take result.n result.items ≡ told list.now n) }
+// The first n changes of a list, and no more than a directory has names.
+fn told(list: &[u8], n: usize) -> ArrayVec<Change, MAX_NAMES>
+    ensures { result.items ≡ told list.now n }
 {
-    let most = n.min(MAX_NAMES);
-    let mut items = [Change::none(); MAX_NAMES];
-    for i in 0..most {
-        items[i] = change_in(list, i);
+    let mut changes = ArrayVec::new();
+    for i in 0..n.min(MAX_NAMES) {
+        changes.push(change_in(list, i));
     }
-    Told { items, n: most }
+    changes
 }
 
-// The first n of `from` over the first places of `out`; the places past them keep their contents. A run with fewer places
-// than a directory has names at most is refused (43), and left as it was.
-fn fill_changes(out: &mut [Change], from: [Change; MAX_NAMES], n: usize) -> u32
-    requires { n ≤ max_names }
-    ensures { (result ≡ answer max_names 43 out.old) × (out.new ≡ filled max_names n from out.old) }
+// The changes that a step told, n in all, from its list, over the first places of `out`; the places past them keep their
+// contents. A run with fewer places than a directory has names at most is refused, and left as it was.
+pub fn read_changes(out: &mut [Change], list: &[u8], n: usize) -> Result<(), Refusal>
+    ensures { (result ≡ answer out.old) × (out.new ≡ filled max_names (min n max_names) (told list.now n) out.old) }
 {
-    fill(out, from, n, 43)
-}
-
-// The changes that a step told, n in all, from its list.
-pub fn read_changes(out: &mut [Change], list: &[u8], n: usize) -> u32
-    ensures { (result ≡ answer max_names 43 out.old) × (out.new ≡ filled max_names (min n max_names) (told list.now n) out.old) }
-{
-    let told = changes_in(list, n);
-    fill_changes(out, told.items, told.n)
+    fill(out, &told(list, n)).or(Err(Refusal::ListRoom))
 }
 
 // One of a run; past its end `none`.
@@ -99,11 +88,11 @@ pub fn change_at(changes: &[Change], i: usize, none: Change) -> Change
     at(changes, i, none)
 }
 
-// A run by value, lent to `read_changes` and given back.
+// A run by value, lent to `read_changes` and given back. It has room for all changes, so that nothing refuses it.
 pub fn with_changes(run: [Change; MAX_NAMES], list: &[u8], n: usize) -> [Change; MAX_NAMES]
     ensures { result ≡ over (min n max_names) (told list.now n) run }
 {
     let mut out = run;
-    read_changes(&mut out, list, n);
+    let _ = read_changes(&mut out, list, n);
     out
 }

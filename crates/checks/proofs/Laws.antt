@@ -8,7 +8,10 @@ use native.Mathlib.Nat.{mod-eq_of_lt}
 use lib.Dec.{eqb, ltb, leb}
 use lib.Ieee.{Float}
 use lib.ListN.{length}
-use borrow.Author.Tests.{eq-eqb, ne_eqb, leb-true, leb-false, ltb-false}
+use borrow.Author.Tests.{eq-eqb, ne_eqb, eqb-false, leb-true, leb-false, ltb-false}
+use Rattle.refusals.specs.Refusals.{number}
+use Rattle.refusals.specs.declared.Refusal.{Refusal}
+use Rattle.refusals.proofs.Laws.{not_zero}
 use Rattle.names.specs.Directory.{directory_check, max_names, max_name_length}
 use Rattle.names.proofs.DirectoryLaws.{checked}
 use Rattle.values.specs.declared.value.Value.{Value}
@@ -26,6 +29,9 @@ use Rattle.checks.specs.Creation.{Setup, creation_check}
 -- the first check refuses
 pub first-refused : (n a m : ℕ) → n ≡ a → (n ≡ 0 → ⊥) → n ≡ first a m
 first-refused n a m e z = let t : eqb a 0 ≡ false = ne_eqb a 0 (λ q. z (e ∙ q)) in e ∙ rw t refl
+
+pub first_refusal : (r : Refusal) (a m : ℕ) → number r ≡ a → number r ≡ first a m
+first_refusal r a m e = first-refused (number r) a m e (eqb-false (number r) 0 (not_zero r))
 
 -- the first check is passed, and the others come to r
 pub first_passed : (n a m r : ℕ) → n ≡ a → n ≡ 0 → r ≡ m → r ≡ first a m

@@ -1,3 +1,4 @@
 -- Laws of checks.
 pub mod Laws
+pub mod CallLaws
 pub mod Links

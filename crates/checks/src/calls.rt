@@ -1,5 +1,6 @@
 // Tier calls, loads and writes.
 ghost use Rattle.std.specs.Prelude.{◌≡◌};
+ghost use Rattle.refusals.specs.Refusals.{code};
 ghost use Rattle.board.specs.Board.{Board, board_in};
 ghost use Rattle.replies.specs.Worker.{worker};
 ghost use Rattle.board.specs.Layout.{IsBoard};
@@ -10,70 +11,68 @@ use board::waiting::queued;
 use engine::Engine;
 use heads::link::{State, is_state};
 use ieee::times::is_clock;
+use refusals::Refusal;
 use results::check::is_finite_value;
 use values::value::Value;
 
-fn clock_check(e: Engine, clock: f64) -> u32
-    ensures { (B : Board) → result ≡ clock_check (worker e B) clock }
+fn clock_check(e: Engine, clock: f64) -> Result<(), Refusal>
+    ensures { (B : Board) → code result ≡ clock_check (worker e B) clock }
 {
     if !is_clock(clock) {
-        return 21;
+        return Err(Refusal::Clock);
     }
     if clock < e.clock {
-        return 22;
+        return Err(Refusal::ClockBehind);
     }
-    0
+    Ok(())
 }
 
-pub fn tier_check(e: Engine, clock: f64, tag: u32, tier: u32) -> u32
-    ensures { (B : Board) → result ≡ tier_check (worker e B) clock tag tier }
+pub fn tier_check(e: Engine, clock: f64, tag: u32, tier: u32) -> Result<(), Refusal>
+    ensures { (B : Board) → code result ≡ tier_check (worker e B) clock tag tier }
 {
-    let n = clock_check(e, clock);
-    if n != 0 {
-        return n;
+    if let Err(refusal) = clock_check(e, clock) {
+        return Err(refusal);
     }
     if e.count as u32 <= tag {
-        return 23;
+        return Err(Refusal::Tag);
     }
     if 3 < tier {
-        return 24;
+        return Err(Refusal::Tier);
     }
-    0
+    Ok(())
 }
 
-pub fn load_check(board: &[u8], e: Engine, clock: f64, list: &[u8]) -> u32
+pub fn load_check(board: &[u8], e: Engine, clock: f64, list: &[u8]) -> Result<(), Refusal>
     requires { IsBoard board.now }
-    ensures { result ≡ load_check (worker e (board_in board.now)) clock list.now }
+    ensures { code result ≡ load_check (worker e (board_in board.now)) clock list.now }
 {
-    let n = clock_check(e, clock);
-    if n != 0 {
-        return n;
+    if let Err(refusal) = clock_check(e, clock) {
+        return Err(refusal);
     }
-    let m = panel::check::check_panel(list, e.count as usize);
-    if m != 0 {
-        return m as u32;
+    if let Err(refusal) = panel::check::check_panel(list, e.count as usize) {
+        return Err(refusal);
     }
     if order_count(board) == 0 {
-        return 0;
+        return Ok(());
     }
-    56
+    Err(Refusal::TierHeld)
 }
 
-pub fn write_check(board: &[u8], e: Engine, tag: u32, value: Value) -> u32
+pub fn write_check(board: &[u8], e: Engine, tag: u32, value: Value) -> Result<(), Refusal>
     requires { IsBoard board.now }
-    ensures { result ≡ write_check (worker e (board_in board.now)) tag value }
+    ensures { code result ≡ write_check (worker e (board_in board.now)) tag value }
 {
     if e.count as u32 <= tag {
-        return 23;
+        return Err(Refusal::Tag);
     }
     if !is_state(e.link, State::Connected) {
-        return 31;
+        return Err(Refusal::NotConnected);
     }
     if 32 <= queued(board) {
-        return 32;
+        return Err(Refusal::QueueFull);
     }
     if is_finite_value(value) {
-        return 0;
+        return Ok(());
     }
-    42
+    Err(Refusal::NotFinite)
 }

@@ -1,31 +1,30 @@
 // Creation.
 ghost use Rattle.std.specs.Prelude.{◌≡◌};
+ghost use Rattle.refusals.specs.Refusals.{code};
 ghost use Rattle.checks.specs.Creation.{creation_check};
 
-use heads::options::Options;
+use heads::options::{Options, check_options};
+use names::directory::Directory;
+use refusals::Refusal;
+use settings::configured::check_configured;
+use settings::setting::check_settings;
 
 pub fn creation_check<'a>(
-    names: &'a [u8],
-    ends: &'a [u32],
-    o: Options,
+    directory: Directory<'a>,
+    options: Options,
     settings: &[u8],
     groups: &[u8],
-) -> u32
-    ensures { result ≡ creation_check (record { names = names.now; ends = ends.now; options = o; settings = settings.now; groups = groups.now }) }
+) -> Result<(), Refusal>
+    ensures { code result ≡ creation_check (record { names = directory.entry.names.now; ends = directory.entry.ends.now; options = options; settings = settings.now; groups = groups.now }) }
 {
-    let n = directory::check_in(names, ends);
-    if n != 0 {
-        return n as u32;
+    if let Err(refusal) = directory.check() {
+        return Err(refusal);
     }
-    let m = heads::options::check_options(o);
-    if m != 0 {
-        return m as u32;
+    if let Err(refusal) = check_options(options) {
+        return Err(refusal);
     }
-    if !settings::setting::check_settings(settings, ends.len()) {
-        return 14;
+    if !check_settings(settings, directory.count()) || !check_configured(groups) {
+        return Err(Refusal::Settings);
     }
-    if !settings::configured::check_configured(groups) {
-        return 14;
-    }
-    0
+    Ok(())
 }

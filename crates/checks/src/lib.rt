@@ -1,4 +1,4 @@
-// The checks of calls, in document 01's order: 0, or the number of the first that refuses.
+// The checks of calls, in document 01's order; the first that refuses is answered.
 #![tactic(auto)]
 
 pub mod calls; // tier calls, loads and writes

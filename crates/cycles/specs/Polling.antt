@@ -15,8 +15,9 @@ use Rattle.engine.specs.Engine.{with_cycle, with_progress}
 use Rattle.board.specs.Board.{with_queue}
 use Rattle.descriptions.specs.Descriptions.{describing}
 use Rattle.replies.specs.Reply as reply
-use Rattle.replies.specs.Worker.{Worker, At, Told, Done, tell, asks, worker, with_board, phased, tallied, goes_on}
-use Rattle.replies.specs.declared.reply.Said.{Said}
+use Rattle.replies.specs.declared.at.At.{At}
+use Rattle.replies.specs.Worker.{Worker, Told, Done, tell, asks, worker, with_board, phased, tallied, goes_on}
+use Rattle.replies.specs.declared.response.Said.{Said}
 use Rattle.replies.specs.Losing.{is_empty, ended}
 use Rattle.queue.specs.declared.Write.{Write}
 

@@ -12,13 +12,11 @@ use lib.Seq.{get_or-set_same}
 use Rattle.ieee.specs.Round.{float}
 use Rattle.memory.specs.Cells.{rows_in, no_row}
 use Rattle.memory.proofs.RowLaws.{length_rows, rows_kept, row_long, spread, spread_is}
-use Rattle.heads.specs.declared.options.Options.{Options}
-use Rattle.heads.specs.declared.cycle.Cycle.{Cycle}
 use Rattle.words.specs.Time.{time_from}
 use Rattle.heads.specs.Link.{link_from}
 use Rattle.heads.specs.Progress.{progress_from}
 use Rattle.heads.specs.Stats.{stats_from}
-use Rattle.engine.specs.Engine.{options_from, cycle_from, engine_from, engine_in, stored, with_clock, backoff_at}
+use Rattle.engine.specs.Engine.{engine_from, engine_in, stored, with_clock, backoff_at}
 use Rattle.engine.specs.declared.Engine.{Engine}
 
 pub engine_coded : (x : Engine)

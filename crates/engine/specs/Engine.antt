@@ -1,5 +1,5 @@
 -- The head of an engine, and its constants.
-use Rattle.std.specs.Prelude.{false, cond, List, [], ◌∷◌, ℕ, ◌/◌, ◌%◌, min, ltb, Float, length, get_or, None}
+use Rattle.std.specs.Prelude.{cond, List, [], ◌∷◌, ℕ, ◌/◌, ◌%◌, min, ltb, Float, length, get_or, None}
 use Rattle.std.specs.Float.{binary64}
 use Rattle.std.specs.Float.Ieee.{of_bits, add}
 use Rattle.ieee.specs.Round.{float}

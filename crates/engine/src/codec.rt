@@ -7,12 +7,12 @@ ghost use Rattle.engine.specs.Engine.{options_from, cycle_from, engine_from};
 
 use super::Engine;
 use heads::cycle::Cycle;
-use heads::link::{Link, link_from, link_words};
+use heads::link::{Link, LinkWords, link_from};
 use heads::options::Options;
-use heads::progress::{Progress, progress_from, progress_words};
-use heads::stats::{Stats, stats_from, stats_words};
+use heads::progress::{Progress, ProgressWords, progress_from};
+use heads::stats::{Stats, StatsWords, stats_from};
 use words::scalar::{float_of_word, word_of_float};
-use words::time::{time_from, time_words};
+use words::time::{TimeWords, time_from};
 
 // Each part of the head from its cells of the row.
 fn options_in(w: [u64; 32]) -> Options
@@ -52,6 +52,7 @@ fn stats_in(w: [u64; 32]) -> Stats
     stats_from(w[19], w[20], w[21], w[22], w[23], w[24], w[25])
 }
 
+// No `From` either way: a row of cells does not say what is in it.
 pub fn engine_from(w: [u64; 32]) -> Engine
     ensures { result ≡ engine_from w }
 {
@@ -69,10 +70,10 @@ pub fn engine_from(w: [u64; 32]) -> Engine
 pub fn engine_words(x: Engine) -> [u64; 32]
     ensures { engine_from result ≡ x }
 {
-    let last = time_words(x.cycle.last);
-    let link = link_words(x.link);
-    let progress = progress_words(x.progress);
-    let stats = stats_words(x.stats);
+    let last = TimeWords::from(x.cycle.last);
+    let link = LinkWords::from(x.link);
+    let progress = ProgressWords::from(x.progress);
+    let stats = StatsWords::from(x.stats);
     [
         word_of_float(x.options.cycle),
         word_of_float(x.options.period),

@@ -10,7 +10,7 @@ ghost use Rattle.table.specs.Table.{table_in, with_cached, with_published, witho
 
 use memory::rows::{put_row_cell, row_cell};
 use values::entry::Entry;
-use words::entry::{EntryWords, entry_words, held_from};
+use words::entry::{EntryWords, held_from};
 
 // The first cells of the two entries in a row.
 const CACHED: usize = 16;
@@ -66,13 +66,13 @@ fn put_words(t: &mut [u8], k: usize, first: usize, w: EntryWords)
 pub fn put_cached(t: &mut [u8], k: usize, e: Entry)
     ensures { table_in t.new ≡ set (table_in t.old) k (with_cached (get_or (table_in t.old) k fresh_tag) e) }
 {
-    put_words(t, k, CACHED, entry_words(e));
+    put_words(t, k, CACHED, EntryWords::from(e));
 }
 
 pub fn put_published(t: &mut [u8], k: usize, e: Entry)
     ensures { table_in t.new ≡ set (table_in t.old) k (with_published (get_or (table_in t.old) k fresh_tag) e) }
 {
-    put_words(t, k, PUBLISHED, entry_words(e));
+    put_words(t, k, PUBLISHED, EntryWords::from(e));
 }
 
 // Last reading time, missing mark and both entries are forgotten. A 0 in its first cell is none of each.

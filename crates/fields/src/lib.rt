@@ -7,11 +7,11 @@ ghost use Rattle.table.specs.Table.{table_in, with_last, with_mark, with_added, 
 
 use memory::rows::{put_row_cell, row_cell};
 use table::codec::{
-    description_from, description_word, grace_from, grace_words, settings_from, timing_from,
+    GraceWords, description_from, description_word, grace_from, settings_from, timing_from,
 };
 use table::tag::{Description, Grace, Settings, Timing};
 use words::scalar::{word_of_flag, word_of_float};
-use words::time::time_words;
+use words::time::TimeWords;
 
 pub fn tier_of(t: &[u8], k: usize) -> u8
     ensures { result ≡ (get_or (table_in t.now) k fresh_tag).tier }
@@ -78,7 +78,7 @@ pub fn put_last(t: &mut [u8], k: usize, clock: f64)
 pub fn put_mark(t: &mut [u8], k: usize, retry: Option<f64>)
     ensures { table_in t.new ≡ set (table_in t.old) k (with_mark (get_or (table_in t.old) k fresh_tag) retry) }
 {
-    let w = time_words(retry);
+    let w = TimeWords::from(retry);
     put_row_cell(t, k, 6, w.known);
     put_row_cell(t, k, 7, w.word);
 }
@@ -108,7 +108,7 @@ pub fn put_description(t: &mut [u8], k: usize, d: Description)
 pub fn put_standing(t: &mut [u8], k: usize, tier: u8, g: Option<Grace>, added: bool, wants: bool)
     ensures { table_in t.new ≡ set (table_in t.old) k (with_standing (get_or (table_in t.old) k fresh_tag) tier g added wants) }
 {
-    let w = grace_words(g);
+    let w = GraceWords::from(g);
     let new = word_of_flag(added);
     put_row_cell(t, k, 0, tier as u64);
     put_row_cell(t, k, 1, w.on);

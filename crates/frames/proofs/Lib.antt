@@ -1,3 +1,4 @@
 -- Laws that the proofs of the functions share, and what their definitions mean.
 pub mod Laws
 pub mod Meaning
+pub mod AnswerLaws

@@ -3,3 +3,4 @@ pub mod Numbers
 pub mod Compare
 pub mod Calls
 pub mod Counts
+pub mod Answer

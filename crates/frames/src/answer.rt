@@ -1,5 +1,9 @@
 // What a call answered, compared with what was recorded.
+ghost use Rattle.std.specs.Prelude.{◌≡◌};
+ghost use Rattle.frames.specs.Answer.{byte, compare_numbers, compare_list, compare};
+
 use crate::compare::{parting, unlike};
+use crate::numbers::eight;
 use crate::parts::{Malformed, Reader};
 use std::fmt;
 
@@ -23,6 +27,11 @@ pub enum Difference {
 }
 
 impl From<Malformed> for Difference {
+    ghost use Rattle.std.specs.Prelude.{◌≡◌};
+    ghost use Rattle.frames.specs.declared.answer.Difference.TheVariants.{Malformed as MalformedFrame};
+
+    ghost from_gives = { λ _ difference. difference ≡ MalformedFrame };
+
     fn from(_: Malformed) -> Difference {
         Difference::Malformed
     }
@@ -46,26 +55,30 @@ impl fmt::Display for Difference {
     }
 }
 
-fn compare_numbers(numbers: &[u64], recorded: &[u8]) -> Result<(), Difference> {
-    let (cells, _) = recorded.as_chunks::<8>();
-    for (index, (is, cell)) in numbers.iter().zip(cells).enumerate() {
-        let recorded = u64::from_le_bytes(*cell);
-        if *is != recorded {
+// A recorded number has eight bytes.
+fn compare_numbers(numbers: &[u64], recorded: &[u8]) -> Result<(), Difference>
+    ensures { result ≡ compare_numbers numbers.now recorded.now }
+{
+    if recorded.len() % 8 != 0 || recorded.len() / 8 != numbers.len() {
+        return Err(Difference::Malformed);
+    }
+    for index in 0..numbers.len() {
+        let is = numbers[index];
+        let recorded = eight(recorded, 8 * index);
+        if is != recorded {
             return Err(Difference::Cell {
                 index,
-                is: *is,
+                is,
                 recorded,
             });
         }
     }
-    if cells.len() == numbers.len() {
-        Ok(())
-    } else {
-        Err(Difference::Malformed)
-    }
+    Ok(())
 }
 
-fn byte(out: &[u8], index: usize, recorded: u8) -> Difference {
+fn byte(out: &[u8], index: usize, recorded: u8) -> Difference
+    ensures { result ≡ byte out.now index recorded }
+{
     let is = out.get(index).copied().unwrap_or(BEFORE);
     Difference::Byte {
         index,
@@ -75,13 +88,15 @@ fn byte(out: &[u8], index: usize, recorded: u8) -> Difference {
 }
 
 // What was recorded stands at the front; behind it all is as before.
-fn compare_list(out: &[u8], recorded: &[u8]) -> Result<(), Difference> {
+fn compare_list(out: &[u8], recorded: &[u8]) -> Result<(), Difference>
+    ensures { result ≡ compare_list out.now recorded.now }
+{
     let n = recorded.len();
     let i = parting(recorded, out);
     if i < n {
         return Err(byte(out, i, recorded[i]));
     }
-    let behind = out.get(n..).ok_or(Malformed)?;
+    let behind = &out[n..];
     let j = unlike(behind, BEFORE);
     if j < behind.len() {
         return Err(byte(out, n + j, BEFORE));
@@ -91,7 +106,9 @@ fn compare_list(out: &[u8], recorded: &[u8]) -> Result<(), Difference> {
 
 // What a call answered, its numbers and its lent list, held to what its frame has next: how many bytes were compared.
 // The numbers are compared first, then the list.
-pub fn compare(numbers: &[u64], out: &[u8], frame: Reader) -> Result<usize, Difference> {
+pub fn compare(numbers: &[u64], out: &[u8], frame: Reader) -> Result<usize, Difference>
+    ensures { result ≡ compare numbers.now out.now frame.entry.rest.now }
+{
     let mut frame = frame;
     let answer = frame.list()?;
     let list = frame.list()?;

@@ -10,6 +10,7 @@ ghost use Rattle.board.specs.Board.{Holds, board_in, with_keys, with_words, with
 ghost use Rattle.fresh.specs.Fresh.{configured_room, empty_board, fresh_board};
 
 use board::starts::{configured_start, keys_start, queue_start, words_start};
+use names::directory::Directory;
 use ranks::{fill_keys, fill_words};
 use settings::configured::keep_configured;
 use versions::check::take_all;
@@ -30,22 +31,22 @@ fn clear(b: &mut [u8])
 }
 
 // What the names say is worked out here, once; no rule needs a name any more.
-fn keep_keys<'a>(b: &mut [u8], names: &'a [u8], ends: &'a [u32])
+fn keep_keys<'a>(b: &mut [u8], directory: Directory<'a>)
     requires { IsBoard b.old }
-    ensures { Holds b.new (with_keys (board_in b.old) (over (board_in b.old).keys (keys_of (names_of names.now ends.now)))) }
+    ensures { Holds b.new (with_keys (board_in b.old) (over (board_in b.old).keys (keys_of (names_of directory.entry.names.now directory.entry.ends.now)))) }
 {
     let start = keys_start(b);
     let end = words_start(b);
-    fill_keys(names, ends, &mut b[start..end]);
+    fill_keys(directory, &mut b[start..end]);
 }
 
-fn keep_words<'a>(b: &mut [u8], names: &'a [u8], ends: &'a [u32])
+fn keep_words<'a>(b: &mut [u8], directory: Directory<'a>)
     requires { IsBoard b.old }
-    ensures { Holds b.new (with_words (board_in b.old) (over (board_in b.old).table.words (words_of (names_of names.now ends.now)))) }
+    ensures { Holds b.new (with_words (board_in b.old) (over (board_in b.old).table.words (words_of (names_of directory.entry.names.now directory.entry.ends.now)))) }
 {
     let start = words_start(b);
     let end = b.len();
-    fill_words(names, ends, &mut b[start..end]);
+    fill_words(directory, &mut b[start..end]);
 }
 
 fn keep_groups(b: &mut [u8], groups: &[u8])
@@ -58,14 +59,14 @@ fn keep_groups(b: &mut [u8], groups: &[u8])
 }
 
 // As many configured groups are kept as there is room for; check 14 lets fewer in.
-pub fn create<'a>(b: &mut [u8], names: &'a [u8], ends: &'a [u32], settings: &[u8], groups: &[u8])
+pub fn create<'a>(b: &mut [u8], directory: Directory<'a>, settings: &[u8], groups: &[u8])
     requires board { IsBoard b.old }
-    requires b_value { tags_in b.old ≡ length ends.now }
-    ensures { Holds b.new (with_configured (fresh_board names.now ends.now settings.now groups.now) (take configured_room (given_groups groups.now))) }
+    requires b_value { tags_in b.old ≡ length directory.ends.now }
+    ensures { Holds b.new (with_configured (fresh_board directory.entry.names.now directory.entry.ends.now settings.now groups.now) (take configured_room (given_groups groups.now))) }
 {
     clear(b);
-    keep_keys(b, names, ends);
-    keep_words(b, names, ends);
+    keep_keys(b, directory);
+    keep_words(b, directory);
     keep_groups(b, groups);
     take_all(b, settings, false);
 }

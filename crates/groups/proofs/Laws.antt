@@ -2,15 +2,16 @@
 use mathlib.Core.Path.{◌≡◌, refl, ap, sym, ◌∙◌}
 use mathlib.Core.List.{List, [], ◌∷◌, ◌++◌, append_assoc}
 use Prim.Native.Nat.{ℕ, suc, ◌+◌, ◌*◌, ◌/◌, ◌%◌, ◌≤◌, ◌<◌}
+use native.Mathlib.Nat.{mod-eq_of_lt}
 use native.Mathlib.Omega.{arith}
 use lib.ListN.{length, get_or, set, take, drop, length-drop, take-append-drop, get_or-append, get_or-eq_default}
-use lib.Seq.{sets, sets-eq, drop-drop, get_or-drop, length-take-le, set_out}
+use lib.Seq.{sets, sets-eq, drop-drop, get_or-drop, length-take-le, set_out, set-get_or, get_or-set_other}
 use Rattle.memory.specs.Blocks.{blocks}
 use Rattle.memory.specs.Cells.{cells_in}
 use Rattle.memory.proofs.BlockLaws.{length-blocks, blocks_at, blocks_put}
 use Rattle.memory.proofs.CellLaws.{length_cells}
 use Rattle.words.specs.Time.{time_from}
-use Rattle.groups.specs.Groups.{fresh_group, group_from, groups_in}
+use Rattle.groups.specs.Groups.{fresh_group, group_from, groups_in, with_rate}
 use Rattle.groups.specs.declared.group.Group.{Group}
 
 pub length-groups : (bs : List ℕ) → length (groups_in bs) ≡ length bs / 64
@@ -74,6 +75,27 @@ group_put old new g a b c d e same h f =
     ap (λ (n : ℕ). blocks group_from 8 (n / 64) (cells_in new)) same
     ∙ ap (blocks group_from 8 (length old / 64)) (f ∙ stored cs (8 * g) a b c d e (omega arith))
     ∙ blocks_put group_from 8 group_within (length old / 64) g cs (a ∷ b ∷ c ∷ d ∷ e ∷ take 3 (drop (8 * g + 5) cs)) h (omega arith) (ap (λ (n : ℕ). suc (suc (suc (suc (suc n))))) spare)
+
+-- the rate alone stored: the other four cells are as they were
+pub rate_put : (old new : List ℕ) (g rate : ℕ) → length new ≡ length old → g < length old / 64 → rate < 0x1_0000_0000
+    → cells_in new ≡ set (cells_in old) (8 * g + 2) rate
+    → groups_in new ≡ set (groups_in old) g (with_rate (get_or (groups_in old) g fresh_group) rate)
+unfolding group_from
+rate_put old new g rate same h small f =
+    let cs = cells_in old in
+    let at : ℕ → ℕ = λ (i : ℕ). get_or cs (8 * g + i) 0 in
+    let ds = set cs (8 * g + 2) rate in
+    let fore : set (set (set cs (8 * g) (get_or cs (8 * g) 0)) (8 * g + 1) (at 1)) (8 * g + 2) rate ≡ ds = rw (set-get_or cs (8 * g) 0, set-get_or cs (8 * g + 1) 0) in
+    let three : set ds (8 * g + 3) (at 3) ≡ ds =
+    ap (set ds (8 * g + 3)) (sym (get_or-set_other cs (8 * g + 2) (8 * g + 3) rate 0 (omega arith))) ∙ set-get_or ds (8 * g + 3) 0
+    in
+    let four : set ds (8 * g + 4) (at 4) ≡ ds =
+    ap (set ds (8 * g + 4)) (sym (get_or-set_other cs (8 * g + 2) (8 * g + 4) rate 0 (omega arith))) ∙ set-get_or ds (8 * g + 4) 0
+    in
+    let all : cells_in new ≡ set (set (set (set (set cs (8 * g) (get_or cs (8 * g) 0)) (8 * g + 1) (at 1)) (8 * g + 2) rate) (8 * g + 3) (at 3)) (8 * g + 4) (at 4)
+    = f ∙ sym (rw (fore, three, four)) in
+    group_put old new g (get_or cs (8 * g) 0) (at 1) rate (at 3) (at 4) same h all
+    ∙ ap (set (groups_in old) g) (rw (group_read old g h, mod-eq_of_lt small))
 
 pub group_kept : (bs : List ℕ) (g : ℕ) (x : Group) → length bs / 64 ≤ g → groups_in bs ≡ set (groups_in bs) g x
 group_kept bs g x h = sym (set_out (groups_in bs) g x (omega (arith, length-groups bs)))

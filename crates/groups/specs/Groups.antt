@@ -30,10 +30,14 @@ pub record Groups : Type 0 where
 abbrev pub grouped : List ℕ → List ℕ → Groups
 grouped s recorded = record { groups = groups_in s; recorded = list_in recorded; recorded_room = room recorded }
 
--- Rule 10: a group's rate is the last recorded. Its period is between the last two rounds that had a tag of it, so its times move on with the first tag of a round.
+-- Rule 10: a group's rate is the last recorded.
+abbrev pub with_rate : Group → ℕ → Group
+with_rate x rate = record { rate = rate; last = x.last; before = x.before }
+
+-- Its period is between the last two rounds that had a tag of it, so its times move on with the first tag of a round.
 unfoldable pub group_read : Group → ℕ → Float → Bool → Group
 group_read x rate at first =
-    cond first (record { rate = rate; last = Some at; before = x.last }) (record { rate = rate; last = x.last; before = x.before })
+    cond first (record { rate = rate; last = Some at; before = x.last }) (with_rate x rate)
 
 -- Rule 10: recorded groups stand in the order of their first reading.
 unfoldable pub noted : Groups → ℕ → ℕ → Float → Bool → Groups

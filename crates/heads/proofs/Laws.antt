@@ -1,15 +1,11 @@
 -- Words that hold the fields of a part hold the part.
 use mathlib.Core.Path.{◌≡◌, refl, ap, ◌∙◌}
 use Prim.Native.Nat.{ℕ, ◌%◌}
-use lib.Dec.{T, ltb}
-use lib.Ieee.{Float, binary64, fits, of_bits, to_bits}
-use lib.Ieee.Bits.{of_bits-to_bits}
-use mir.Val.{to_z}
-use mir.Syntax.{w64}
+use lib.Dec.{ltb}
+use lib.Ieee.{binary64, of_bits}
 use Rattle.heads.specs.Version.{version_from}
 use Rattle.heads.specs.Link.{state_from, state_number, link_from}
 use Rattle.heads.specs.Progress.{phase_from, phase_number, after_from, after_number, progress_from}
-use Rattle.heads.specs.Stats.{stats_from}
 use Rattle.heads.specs.declared.link.State.{State}
 use Rattle.heads.specs.declared.link.State.TheVariants.{Connecting, Connected, Disconnected, Stopped}
 use Rattle.heads.specs.declared.link.Link.{Link}
@@ -18,7 +14,6 @@ use Rattle.heads.specs.declared.progress.After.TheVariants.{Tail, Idle, End}
 use Rattle.heads.specs.declared.progress.Phase.{Phase}
 use Rattle.heads.specs.declared.progress.Phase.TheVariants.{Begin, Connect, OpenVersion, Version, Read, Describe, Write, ReadBack, Wait, Backoff, OpenFailedTold, OpenMetaTold, ConnectedTold, MetaTold, ValuesTold, InfoTold, RefusedTold, LostTold, OutcomeTold, BackTold, FailedTold, StaleTold, DisconnectedTold, ConnectingTold, Stopped as Halted}
 use Rattle.heads.specs.declared.progress.Progress.{Progress}
-use Rattle.heads.specs.declared.stats.Stats.{Stats}
 
 pub state_coded : (s : State) → state_from (state_number s) ≡ s
 state_coded Connecting = refl

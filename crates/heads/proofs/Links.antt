@@ -6,9 +6,9 @@ use prog.LinkedThreads.{HasT}
 use prog.Wired.{Code}
 use Rattle.heads.proofs.TheLink as link
 use Rattle.heads.proofs.TheLinks.heads-link-Link-fresh
+use Rattle.heads.proofs.TheLinks.heads-link-LinkWordsFromLink-from
 use Rattle.heads.proofs.TheLinks.heads-link-is_state
 use Rattle.heads.proofs.TheLinks.heads-link-link_from
-use Rattle.heads.proofs.TheLinks.heads-link-link_words
 use Rattle.heads.proofs.TheLinks.heads-link-state_number
 use Rattle.heads.proofs.TheLinks.heads-link-stopped
 use Rattle.heads.proofs.TheLinks.heads-link-with_attempt
@@ -16,18 +16,18 @@ use Rattle.heads.proofs.TheLinks.heads-link-with_state
 use Rattle.heads.proofs.TheLinks.heads-link-with_version
 use Rattle.heads.proofs.TheLinks.heads-options-check_options
 use Rattle.heads.proofs.TheLinks.heads-progress-Progress-fresh
+use Rattle.heads.proofs.TheLinks.heads-progress-ProgressWordsFromProgress-from
 use Rattle.heads.proofs.TheLinks.heads-progress-progress_from
-use Rattle.heads.proofs.TheLinks.heads-progress-progress_words
 use Rattle.heads.proofs.TheLinks.heads-progress-with_phase
 use Rattle.heads.proofs.TheLinks.heads-progress-with_round
 use Rattle.heads.proofs.TheLinks.heads-progress-with_writing
 use Rattle.heads.proofs.TheLinks.heads-stats-Stats-fresh
+use Rattle.heads.proofs.TheLinks.heads-stats-StatsWordsFromStats-from
 use Rattle.heads.proofs.TheLinks.heads-stats-more
 use Rattle.heads.proofs.TheLinks.heads-stats-read_stats
 use Rattle.heads.proofs.TheLinks.heads-stats-reconnected
 use Rattle.heads.proofs.TheLinks.heads-stats-reloaded
 use Rattle.heads.proofs.TheLinks.heads-stats-stats_from
-use Rattle.heads.proofs.TheLinks.heads-stats-stats_words
 use Rattle.heads.proofs.TheLinks.heads-stats-tail_stats
 use Rattle.heads.proofs.TheLinks.heads-version-is_changed
 use Rattle.heads.proofs.TheLinks.heads-version-is_reloaded
@@ -44,14 +44,14 @@ Linked c = (W : World) → Holds W "heads" table → Below W → HasT (in_world 
 pub link_Link_fresh : Linked heads-link-Link-fresh.code
 link_Link_fresh = link.linked-heads::link::Link::fresh
 
+pub link_LinkWordsFromLink_from : Linked heads-link-LinkWordsFromLink-from.code
+link_LinkWordsFromLink_from = link.linked-heads::link::LinkWordsFromLink::from
+
 pub link_is_state : Linked heads-link-is_state.code
 link_is_state = link.linked-heads::link::is_state
 
 pub link_link_from : Linked heads-link-link_from.code
 link_link_from = link.linked-heads::link::link_from
-
-pub link_link_words : Linked heads-link-link_words.code
-link_link_words = link.linked-heads::link::link_words
 
 pub link_state_number : Linked heads-link-state_number.code
 link_state_number = link.linked-heads::link::state_number
@@ -74,11 +74,11 @@ options_check_options = link.linked-heads::options::check_options
 pub progress_Progress_fresh : Linked heads-progress-Progress-fresh.code
 progress_Progress_fresh = link.linked-heads::progress::Progress::fresh
 
+pub progress_ProgressWordsFromProgress_from : Linked heads-progress-ProgressWordsFromProgress-from.code
+progress_ProgressWordsFromProgress_from = link.linked-heads::progress::ProgressWordsFromProgress::from
+
 pub progress_progress_from : Linked heads-progress-progress_from.code
 progress_progress_from = link.linked-heads::progress::progress_from
-
-pub progress_progress_words : Linked heads-progress-progress_words.code
-progress_progress_words = link.linked-heads::progress::progress_words
 
 pub progress_with_phase : Linked heads-progress-with_phase.code
 progress_with_phase = link.linked-heads::progress::with_phase
@@ -91,6 +91,9 @@ progress_with_writing = link.linked-heads::progress::with_writing
 
 pub stats_Stats_fresh : Linked heads-stats-Stats-fresh.code
 stats_Stats_fresh = link.linked-heads::stats::Stats::fresh
+
+pub stats_StatsWordsFromStats_from : Linked heads-stats-StatsWordsFromStats-from.code
+stats_StatsWordsFromStats_from = link.linked-heads::stats::StatsWordsFromStats::from
 
 pub stats_more : Linked heads-stats-more.code
 stats_more = link.linked-heads::stats::more
@@ -106,9 +109,6 @@ stats_reloaded = link.linked-heads::stats::reloaded
 
 pub stats_stats_from : Linked heads-stats-stats_from.code
 stats_stats_from = link.linked-heads::stats::stats_from
-
-pub stats_stats_words : Linked heads-stats-stats_words.code
-stats_stats_words = link.linked-heads::stats::stats_words
 
 pub stats_tail_stats : Linked heads-stats-tail_stats.code
 stats_tail_stats = link.linked-heads::stats::tail_stats

@@ -2,11 +2,11 @@
 ghost use Rattle.std.specs.Prelude.{◌≡◌};
 ghost use Rattle.heads.specs.Link.{fresh_link, state_from, state_number, with_state, with_attempt, with_version, stopped, is_state, link_from};
 
-use super::version::{version_from, version_words};
+use super::version::{VersionWords, version_from};
 use words::scalar::word_of_flag;
 
 // What the host is told. Stopped is not told; it comes with the end.
-#[derive(Clone, Copy)]
+#[derive(Clone, Copy, PartialEq, Eq)]
 pub enum State {
     Connecting,
     Connected,
@@ -46,6 +46,8 @@ impl Link {
     }
 }
 
+// A function each way, and no `From`, as in `progress`: the number is one of many that a `u64` may be. And no `From` for
+// what comes as several cells, as `link_from` does.
 pub fn state_from(n: u64) -> State
     ensures { result ≡ state_from n }
 {
@@ -71,7 +73,7 @@ pub fn state_number(s: State) -> u64
 pub fn is_state(x: Link, s: State) -> bool
     ensures { result ≡ is_state x s }
 {
-    state_number(x.state) == state_number(s)
+    x.state == s
 }
 
 pub fn with_state(x: Link, s: State) -> Link
@@ -113,15 +115,17 @@ pub fn link_from(state: u64, stopping: u64, known: u64, number: u64, attempt: u6
     }
 }
 
-pub fn link_words(x: Link) -> LinkWords
-    ensures { link_from result.state result.stopping result.known result.number result.attempt ≡ x }
-{
-    let version = version_words(x.version);
-    LinkWords {
-        state: state_number(x.state),
-        stopping: word_of_flag(x.stopping),
-        known: version.known,
-        number: version.number,
-        attempt: x.attempt,
+impl From<Link> for LinkWords {
+    ghost from_gives = { λ x words. link_from words.state words.stopping words.known words.number words.attempt ≡ x };
+
+    fn from(x: Link) -> LinkWords {
+        let version = VersionWords::from(x.version);
+        LinkWords {
+            state: state_number(x.state),
+            stopping: word_of_flag(x.stopping),
+            known: version.known,
+            number: version.number,
+            attempt: x.attempt,
+        }
     }
 }

@@ -1,6 +1,9 @@
 // What a host sets for an engine, with checks 11, 12 and 13.
 ghost use Rattle.std.specs.Prelude.{◌≡◌};
+ghost use Rattle.refusals.specs.Refusals.{code};
 ghost use Rattle.heads.specs.Options.{cycle_ok, span_ok, options_check};
+
+use refusals::Refusal;
 
 // In seconds.
 #[repr(C)]
@@ -23,18 +26,17 @@ fn is_span(x: f64) -> bool
     x >= 0.0 && x <= 86400.0
 }
 
-// 0, or the number of the check that refuses.
-pub fn check_options(o: Options) -> u8
-    ensures { result ≡ options_check o }
+pub fn check_options(o: Options) -> Result<(), Refusal>
+    ensures { code result ≡ options_check o }
 {
     if !is_cycle(o.cycle) {
-        return 11;
+        return Err(Refusal::Cycle);
     }
     if !is_span(o.period) {
-        return 12;
+        return Err(Refusal::Period);
     }
     if !is_span(o.grace) {
-        return 13;
+        return Err(Refusal::Grace);
     }
-    0
+    Ok(())
 }

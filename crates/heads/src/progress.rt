@@ -213,15 +213,17 @@ pub fn progress_from(
     }
 }
 
-pub fn progress_words(x: Progress) -> ProgressWords
-    ensures { progress_from result.phase result.after result.start result.tick result.boundary result.tag ≡ x }
-{
-    ProgressWords {
-        phase: phase_number(x.phase),
-        after: after_number(x.after),
-        start: word_of_float(x.start),
-        tick: word_of_float(x.tick),
-        boundary: word_of_flag(x.boundary),
-        tag: x.tag as u64,
+impl From<Progress> for ProgressWords {
+    ghost from_gives = { λ x words. progress_from words.phase words.after words.start words.tick words.boundary words.tag ≡ x };
+
+    fn from(x: Progress) -> ProgressWords {
+        ProgressWords {
+            phase: phase_number(x.phase),
+            after: after_number(x.after),
+            start: word_of_float(x.start),
+            tick: word_of_float(x.tick),
+            boundary: word_of_flag(x.boundary),
+            tag: x.tag as u64,
+        }
     }
 }

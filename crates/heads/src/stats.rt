@@ -120,20 +120,22 @@ fn round_time_from(timed: u64, ms: u64, ts: u64) -> Option<RoundTime>
     })
 }
 
-fn round_time_words(x: Option<RoundTime>) -> RoundTimeWords
-    ensures { round_time_from result.timed result.ms result.ts ≡ x }
-{
-    match x {
-        None => RoundTimeWords {
-            timed: 0,
-            ms: 0,
-            ts: 0,
-        },
-        Some(r) => RoundTimeWords {
-            timed: 1,
-            ms: word_of_float(r.ms),
-            ts: word_of_int(r.ts),
-        },
+impl From<Option<RoundTime>> for RoundTimeWords {
+    ghost from_gives = { λ x words. round_time_from words.timed words.ms words.ts ≡ x };
+
+    fn from(x: Option<RoundTime>) -> RoundTimeWords {
+        match x {
+            None => RoundTimeWords {
+                timed: 0,
+                ms: 0,
+                ts: 0,
+            },
+            Some(r) => RoundTimeWords {
+                timed: 1,
+                ms: word_of_float(r.ms),
+                ts: word_of_int(r.ts),
+            },
+        }
     }
 }
 
@@ -157,17 +159,19 @@ pub fn stats_from(
     }
 }
 
-pub fn stats_words(x: Stats) -> StatsWords
-    ensures { stats_from result.timed result.ms result.ts result.tags result.overruns result.reconnects result.reloads ≡ x }
-{
-    let last = round_time_words(x.last);
-    StatsWords {
-        timed: last.timed,
-        ms: last.ms,
-        ts: last.ts,
-        tags: x.tags,
-        overruns: x.overruns,
-        reconnects: x.reconnects,
-        reloads: x.reloads,
+impl From<Stats> for StatsWords {
+    ghost from_gives = { λ x words. stats_from words.timed words.ms words.ts words.tags words.overruns words.reconnects words.reloads ≡ x };
+
+    fn from(x: Stats) -> StatsWords {
+        let last = RoundTimeWords::from(x.last);
+        StatsWords {
+            timed: last.timed,
+            ms: last.ms,
+            ts: last.ts,
+            tags: x.tags,
+            overruns: x.overruns,
+            reconnects: x.reconnects,
+            reloads: x.reloads,
+        }
     }
 }

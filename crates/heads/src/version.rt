@@ -42,17 +42,19 @@ pub fn version_from(known: u64, number: u64) -> Option<u64>
     Some(number)
 }
 
-pub fn version_words(v: Option<u64>) -> VersionWords
-    ensures { version_from result.known result.number ≡ v }
-{
-    match v {
-        None => VersionWords {
-            known: 0,
-            number: 0,
-        },
-        Some(n) => VersionWords {
-            known: 1,
-            number: n,
-        },
+impl From<Option<u64>> for VersionWords {
+    ghost from_gives = { λ v words. version_from words.known words.number ≡ v };
+
+    fn from(v: Option<u64>) -> VersionWords {
+        match v {
+            None => VersionWords {
+                known: 0,
+                number: 0,
+            },
+            Some(n) => VersionWords {
+                known: 1,
+                number: n,
+            },
+        }
     }
 }

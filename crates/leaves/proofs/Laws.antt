@@ -1,18 +1,30 @@
 -- Memory by its length, and what a call on it comes to.
 use mathlib.Core.Path.{◌≡◌, refl, ap, sym, ◌∙◌}
-use mathlib.Core.Bool.{Bool, true, false, cond, ◌&&◌, true≢false}
+use mathlib.Core.Bool.{Bool, true, false, cond, not, ◌&&◌, true≢false}
 use mathlib.Core.List.{List}
-use Prim.Native.Nat.{ℕ}
+use Prim.Native.Nat.{ℕ, ◌≤◌}
 use native.Mathlib.Omega.{arith}
 use borrow.Author.Tests.{eqb-true, leb-true}
 use lib.Dec.{eqb, leb}
 use lib.ListN.{length}
-use Rattle.names.specs.Directory.{max_names}
+use Rattle.names.specs.Directory.{max_names, bad_count, good_ends, good_names, names_of, rising, directory_check}
 use Rattle.board.specs.Layout.{board_size, tags_for, tags_in, is_board_size, IsBoard}
 use Rattle.board.specs.Board.{Board, Holds}
 use Rattle.leaves.specs.Polls.{not_aBoard, size_check, fresh_check, Called}
 
 -- ---- the checks
+
+-- the numbers of a directory's refusals go to 4
+pub check_small : (most long : ℕ) (s ends : List ℕ) → directory_check most long s ends ≤ 4
+unfolding directory_check
+check_small most long s ends = go (bad_count most ends) (not (good_ends long 0 ends (length s))) (not (good_names (names_of s ends))) (not (rising (names_of s ends)))
+  where
+    go : (a b c d : Bool) → cond a 1 (cond b 2 (cond c 3 (cond d 4 0))) ≤ 4
+    go true b c d = omega arith
+    go false true c d = omega arith
+    go false false true d = omega arith
+    go false false false true = omega arith
+    go false false false false = omega arith
 
 pub size_checked : (bs : List ℕ) (b : Bool) → b ≡ is_board_size (length bs) → cond b 0 not_aBoard ≡ size_check bs
 unfolding size_check

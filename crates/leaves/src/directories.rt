@@ -7,15 +7,18 @@ ghost use Rattle.names.specs.Keys.{key_of, word_of};
 ghost use Rattle.leaves.specs.Directories.{order_number, word_length, found_tag};
 
 use names::bits::split_bit;
-use names::keys::word_of;
+use names::directory::Directory;
 use names::order::{compare, compare_lower};
+use refusals::code;
 use std::cmp::Ordering;
 
+// 0, or the number of the check that refuses.
+#[tactic(auto, using(crate::proofs::Laws::check_small))]
 #[unsafe(no_mangle)]
-pub extern "C" fn leaf_check_directory<'a>(buffer: &'a [u8], ends: &'a [u32]) -> u8
-    ensures { result ≡ directory_check max_names max_name_length buffer.now ends.now }
+pub extern "C" fn leaf_check_directory<'a>(names: &'a [u8], ends: &'a [u32]) -> u8
+    ensures { result ≡ directory_check max_names max_name_length names.now ends.now }
 {
-    names::directory::check_directory(buffer, ends)
+    code(Directory { names, ends }.check()) as u8
 }
 
 fn order_number(o: Ordering) -> u8
@@ -51,16 +54,16 @@ pub extern "C" fn leaf_split_bit(name: &[u8]) -> usize
 }
 
 #[unsafe(no_mangle)]
-pub extern "C" fn leaf_sort_key<'a>(buffer: &'a [u8], ends: &'a [u32], tag: usize) -> usize
-    ensures { result ≡ key_of (names_of buffer.now ends.now) tag }
+pub extern "C" fn leaf_sort_key<'a>(names: &'a [u8], ends: &'a [u32], tag: usize) -> usize
+    ensures { result ≡ key_of (names_of names.now ends.now) tag }
 {
-    names::keys::sort_key(buffer, ends, tag)
+    Directory { names, ends }.sort_key(tag)
 }
 
 // The tag of a bit's word, the largest number where there is none.
 #[unsafe(no_mangle)]
-pub extern "C" fn leaf_word_of<'a>(buffer: &'a [u8], ends: &'a [u32], tag: usize) -> usize
-    ensures { result ≡ found_tag (word_of (names_of buffer.now ends.now) tag) }
+pub extern "C" fn leaf_word_of<'a>(names: &'a [u8], ends: &'a [u32], tag: usize) -> usize
+    ensures { result ≡ found_tag (word_of (names_of names.now ends.now) tag) }
 {
-    word_of(buffer, ends, tag).unwrap_or(usize::MAX)
+    Directory { names, ends }.word_of(tag).unwrap_or(usize::MAX)
 }

@@ -14,9 +14,10 @@ use board::tag_lists::asked_count;
 use heads::cycle::Cycle;
 use heads::options::Options;
 use lent::put_bytes;
-use names::directory::MAX_NAMES;
+use names::directory::{Directory, MAX_NAMES};
 use rounds::round::CycleTags;
 
+// As C passes it. C has no Option: the time of the last boundary counts where `begun` is true.
 #[repr(C)]
 #[derive(Clone, Copy)]
 pub struct LeafCycle {
@@ -37,6 +38,7 @@ impl From<LeafCycle> for Cycle {
     }
 }
 
+// As C gets it, with the cycle for the next round: `last` beside `begun`, as in `LeafCycle`.
 #[repr(C)]
 #[derive(Clone, Copy, Default)]
 pub struct LeafRound {
@@ -102,7 +104,7 @@ pub extern "C" fn leaf_create<'a>(
     if code != 0 {
         return code;
     }
-    fresh::create(mem, names, ends, settings, groups);
+    fresh::create(mem, Directory { names, ends }, settings, groups);
     0
 }
 

@@ -8,7 +8,7 @@ ghost use Rattle.lent.specs.Changes.{change_cells};
 use super::put_record;
 use entries::published_of;
 use tags::{at, count};
-use words::entry::held_words;
+use words::entry::EntryWords;
 
 // The bytes of a change.
 pub const CHANGE: usize = 72;
@@ -16,7 +16,7 @@ pub const CHANGE: usize = 72;
 fn put_change(out: &mut [u8], i: usize, table: &[u8], k: usize)
     ensures { out.new ≡ record_put out.old i (change_cells (table_in table.now) k) }
 {
-    let w = held_words(published_of(table, k));
+    let w = EntryWords::from(published_of(table, k));
     let cells = [
         k as u64, w.held, w.kind, w.word, w.t, w.error, w.message, 0, 0,
     ];

@@ -1,4 +1,5 @@
 // The round lister on stored input: a line with two spaces ends the listing.
+// A crate has one stored run, so that each run of the lister is a crate of its own, whose main makes this one call.
 #![tactic(auto)]
 
 use std::io;

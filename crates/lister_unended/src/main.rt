@@ -1,4 +1,5 @@
 // The round lister on stored input: the last line has no line feed, so it is of another form.
+// A crate has one stored run, so that each run of the lister is a crate of its own, whose main makes this one call.
 #![tactic(auto)]
 
 use std::io;

@@ -105,9 +105,6 @@ decimal_digits = by_digits (λ n. all is_digit (decimal_of n) ≡ true) one more
 
 -- ---- how many
 
-pub width_one : (n : ℕ) → n < 10 → length (decimal_of n) ≡ 1
-width_one n h = rw (decimal_one n h)
-
 pub width_more : (n : ℕ) → 10 ≤ n → length (decimal_of n) ≡ length (decimal_of (n / 10)) + 1
 width_more n h = rw (decimal_more n h, length-append)
 

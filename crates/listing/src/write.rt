@@ -1,9 +1,13 @@
-// The lines that the round lister writes. Each function puts its bytes from a place on and answers
-// the place after them, or `None` where there is no room for all of them. `out` and `at` are no struct:
-// its clauses would still name both, each before and after.
-ghost use Rattle.std.specs.Prelude.{◌≡◌, [], ◌∷◌, ◌+◌, ◌%◌, length};
+// The lines that the round lister writes. Each function puts its bytes behind those that stand in the line.
+ghost use Rattle.std.specs.Prelude.{◌≡◌, [], ◌∷◌, ◌+◌, ◌%◌};
 ghost use Rattle.tags.specs.Lists.{list_in};
-ghost use Rattle.listing.specs.Write.{decimal_of, written, after, Put, fields_of, numbers_of, line_of};
+ghost use Rattle.listing.specs.Write.{decimal_of, Put, fields_of, numbers_of, line_of};
+
+use arrayvec::ArrayVec;
+
+// The line has no room for all of the bytes; then what stands in it is of no use.
+#[derive(Clone, Copy, Debug)]
+pub struct Full;
 
 // The last digit of n, as a byte.
 fn digit(n: u64) -> u8
@@ -12,83 +16,61 @@ fn digit(n: u64) -> u8
     (48 + n % 10) as u8
 }
 
-// How many digits n has.
-fn width(n: u64) -> usize
-    ensures { result ≡ length (decimal_of n) }
+fn put_byte<const N: usize>(out: &mut ArrayVec<u8, N>, b: u8) -> Result<(), Full>
+    ensures { Put N out.old.items out.new.items (b ∷ []) result }
 {
-    let mut digits = 1;
-    let mut rest = n;
-    while 10 <= rest {
-        rest /= 10;
-        digits += 1;
+    if out.is_full() {
+        return Err(Full);
     }
-    digits
+    out.push(b);
+    Ok(())
 }
 
-pub fn put_byte(out: &mut [u8], at: usize, b: u8) -> Option<usize>
-    ensures value { result ≡ after out.old at (b ∷ []) }
-    ensures out_after { out.new ≡ written out.old at (b ∷ []) }
+// n in decimal. It calls itself for the digits before the last: a u64 has 20 at most.
+fn put_number<const N: usize>(out: &mut ArrayVec<u8, N>, n: u64) -> Result<(), Full>
+    ensures { Put N out.old.items out.new.items (decimal_of n) result }
 {
-    if out.len() <= at {
-        return None;
+    if 10 <= n {
+        put_number(out, n / 10)?;
     }
-    out[at] = b;
-    Some(at + 1)
+    put_byte(out, digit(n))
 }
 
-// n in decimal, written from its last digit to its first. It is `while`, since the number says when it
-// ends, and not the place.
-pub fn put_number(out: &mut [u8], at: usize, n: u64) -> Option<usize>
-    ensures value { result ≡ after out.old at (decimal_of n) }
-    ensures out_after { out.new ≡ written out.old at (decimal_of n) }
+// A field after the first of its line: a space and n.
+fn put_field<const N: usize>(out: &mut ArrayVec<u8, N>, n: u64) -> Result<(), Full>
+    ensures { Put N out.old.items out.new.items (32 ∷ decimal_of n) result }
 {
-    let digits = width(n);
-    if out.len() < digits || out.len() - digits < at {
-        return None;
-    }
-    let mut i = at + digits;
-    let mut rest = n;
-    while 10 <= rest {
-        i -= 1;
-        out[i] = digit(rest);
-        rest /= 10;
-    }
-    out[at] = digit(rest);
-    Some(at + digits)
-}
-
-// A field after the first of its line: a space and n. The space comes last, so that either both are
-// written or none.
-pub fn put_field(out: &mut [u8], at: usize, n: u64) -> Option<usize>
-    ensures value { result ≡ after out.old at (32 ∷ decimal_of n) }
-    ensures out_after { out.new ≡ written out.old at (32 ∷ decimal_of n) }
-{
-    if out.len() <= at {
-        return None;
-    }
-    let end = put_number(out, at + 1, n)?;
-    out[at] = b' ';
-    Some(end)
+    put_byte(out, b' ')?;
+    put_number(out, n)
 }
 
 // Time, boundary and count, with which each round's line begins. A boundary is marked 1.
-fn put_head(out: &mut [u8], ms: u64, boundary: bool, count: u64) -> Option<usize>
-    ensures { Put out.old out.new (fields_of (numbers_of ms boundary count [])) result }
+fn put_head<const N: usize>(
+    out: &mut ArrayVec<u8, N>,
+    ms: u64,
+    boundary: bool,
+    count: u64,
+) -> Result<(), Full>
+    ensures { Put N out.old.items out.new.items (fields_of (numbers_of ms boundary count [])) result }
 {
-    let first = put_number(out, 0, ms)?;
-    let second = put_field(out, first, u64::from(boundary))?;
-    put_field(out, second, count)
+    put_number(out, ms)?;
+    put_field(out, u64::from(boundary))?;
+    put_field(out, count)
 }
 
-// The line of a round, from the start of `out` on: its length, or `None` where it does not fit, and
-// then what stands in `out` is of no use.
-pub fn put_line(out: &mut [u8], ms: u64, boundary: bool, list: &[u8]) -> Option<usize>
-    ensures { Put out.old out.new (line_of ms boundary (list_in list.now)) result }
+// The line of a round.
+pub fn put_line<const N: usize>(
+    out: &mut ArrayVec<u8, N>,
+    ms: u64,
+    boundary: bool,
+    list: &[u8],
+) -> Result<(), Full>
+    ensures { Put N out.old.items out.new.items (line_of ms boundary (list_in list.now)) result }
 {
     let count = tags::count(list);
-    let mut at = put_head(out, ms, boundary, count as u64)?;
+    put_head(out, ms, boundary, count as u64)?;
     for i in 0..count {
-        at = put_field(out, at, tags::at(list, i) as u64)?;
+        put_field(out, tags::at(list, i) as u64)?;
     }
-    put_byte(out, at, b'\n')
+    put_byte(out, b'\n')
 }

@@ -8,6 +8,7 @@ use Rattle.memory.proofs.TheLink as link
 use Rattle.memory.proofs.TheLinks.memory-bytes-half
 use Rattle.memory.proofs.TheLinks.memory-bytes-put_half
 use Rattle.memory.proofs.TheLinks.memory-cells-cell
+use Rattle.memory.proofs.TheLinks.memory-cells-places
 use Rattle.memory.proofs.TheLinks.memory-cells-put_cell
 use Rattle.memory.proofs.TheLinks.memory-halves-half
 use Rattle.memory.proofs.TheLinks.memory-halves-put_half
@@ -33,6 +34,9 @@ bytes_put_half = link.linked-memory::bytes::put_half
 
 pub cells_cell : Linked memory-cells-cell.code
 cells_cell = link.linked-memory::cells::cell
+
+pub cells_places : Linked memory-cells-places.code
+cells_places = link.linked-memory::cells::places
 
 pub cells_put_cell : Linked memory-cells-put_cell.code
 cells_put_cell = link.linked-memory::cells::put_cell

@@ -1,4 +1,5 @@
-// A slice as halves: numbers below 65536, in two bytes each.
+// A slice as halves: numbers below 65536, in two bytes each. Cells have the same two functions: one for both would take how
+// a number of its width is loaded and stored, as closures, and clauses for these that are longer than the functions.
 ghost use Rattle.std.specs.Prelude.{◌≡◌, ◌%◌, get_or, set};
 ghost use Rattle.memory.specs.Halves.{halves_in};
 

@@ -5,11 +5,11 @@ use prog.Linked.{Tree, World, Holds, in_world}
 use prog.LinkedThreads.{HasT}
 use prog.Wired.{Code}
 use Rattle.names.proofs.TheLink as link
-use Rattle.names.proofs.TheLinks.names-directory-check_directory
-use Rattle.names.proofs.TheLinks.names-directory-name_of
-use Rattle.names.proofs.TheLinks.names-keys-is_bit
-use Rattle.names.proofs.TheLinks.names-keys-sort_key
-use Rattle.names.proofs.TheLinks.names-keys-word_of
+use Rattle.names.proofs.TheLinks.names-directory-Directory-check
+use Rattle.names.proofs.TheLinks.names-directory-Directory-count
+use Rattle.names.proofs.TheLinks.names-directory-Directory-is_bit
+use Rattle.names.proofs.TheLinks.names-directory-Directory-sort_key
+use Rattle.names.proofs.TheLinks.names-directory-Directory-word_of
 
 abbrev pub table : Tree
 table = link.table
@@ -20,17 +20,17 @@ Below W = link.Below W
 abbrev pub Linked : Code → Type 0
 Linked c = (W : World) → Holds W "names" table → Below W → HasT (in_world W) true c
 
-pub directory_check_directory : Linked names-directory-check_directory.code
-directory_check_directory = link.linked-names::directory::check_directory
+pub directory_Directory_check : Linked names-directory-Directory-check.code
+directory_Directory_check = link.linked-names::directory::Directory::check
 
-pub directory_name_of : Linked names-directory-name_of.code
-directory_name_of = link.linked-names::directory::name_of
+pub directory_Directory_count : Linked names-directory-Directory-count.code
+directory_Directory_count = link.linked-names::directory::Directory::count
 
-pub keys_is_bit : Linked names-keys-is_bit.code
-keys_is_bit = link.linked-names::keys::is_bit
+pub directory_Directory_is_bit : Linked names-directory-Directory-is_bit.code
+directory_Directory_is_bit = link.linked-names::directory::Directory::is_bit
 
-pub keys_sort_key : Linked names-keys-sort_key.code
-keys_sort_key = link.linked-names::keys::sort_key
+pub directory_Directory_sort_key : Linked names-directory-Directory-sort_key.code
+directory_Directory_sort_key = link.linked-names::directory::Directory::sort_key
 
-pub keys_word_of : Linked names-keys-word_of.code
-keys_word_of = link.linked-names::keys::word_of
+pub directory_Directory_word_of : Linked names-directory-Directory-word_of.code
+directory_Directory_word_of = link.linked-names::directory::Directory::word_of

@@ -54,6 +54,12 @@ module _ (f : ℕ → ℕ) (a b : List ℕ) (i : ℕ) where
   pub compared_on : i < length a → i < length b → f (get_or b i 0) ≤ f (get_or a i 0) → f (get_or a i 0) ≤ f (get_or b i 0) → left_at f a b i ≡ left_at f a b (i + 1)
   compared_on h k l m = compared_more h k ∙ simp (le-ltb _ _ l, le-ltb _ _ m)
 
+  -- two bytes that are alike are alike as they are compared
+  pub compared_alike : i < length a → i < length b → get_or a i 0 ≡ get_or b i 0 → left_at f a b i ≡ left_at f a b (i + 1)
+  compared_alike h k e =
+      let at : f (get_or a i 0) ≡ f (get_or b i 0) = simp e in
+      compared_on h k (omega arith) (omega arith)
+
 -- ---- bits
 
 pub dot_more : (s : List ℕ) (i last : ℕ) → i < length s → last_dot i last (drop i s) ≡ last_dot (i + 1) (cond (eqb (get_or s i 0) 46) i last) (drop (i + 1) s)

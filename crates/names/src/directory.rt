@@ -1,12 +1,21 @@
 // A directory: names as parts of the buffer, and checks 1 to 4.
-ghost use Rattle.std.specs.Prelude.{◌≡◌};
+ghost use Rattle.std.specs.Prelude.{◌≡◌, length};
+ghost use Rattle.refusals.specs.Refusals.{code};
 ghost use Rattle.names.specs.Directory.{piece, names_of, name_at, good_ends, good_bytes, rising, directory_check, max_names, max_name_length};
 
 use crate::order::less;
+use refusals::Refusal;
 
 pub const MAX_NAMES: usize = 120;
 
 pub const MAX_NAME_LENGTH: usize = 40;
+
+// The lent names, joined, and where each ends.
+#[derive(Clone, Copy)]
+pub struct Directory<'a> {
+    pub names: &'a [u8],
+    pub ends: &'a [u32],
+}
 
 // The bytes from a start to an end, as many as there are.
 pub fn part(s: &[u8], from: usize, end: usize) -> &[u8]
@@ -19,17 +28,6 @@ pub fn part(s: &[u8], from: usize, end: usize) -> &[u8]
         return &s[from..];
     }
     &s[from..end]
-}
-
-// A tag's name; no bytes for a tag that the directory does not have.
-pub fn name_of<'a>(names: &'a [u8], ends: &'a [u32], tag: usize) -> &'a [u8]
-    ensures { result.now ≡ name_at names.now ends.now tag }
-{
-    if ends.len() <= tag {
-        return part(names, 0, 0);
-    }
-    let from = if tag == 0 { 0 } else { ends[tag - 1] as usize };
-    part(names, from, ends[tag] as usize)
 }
 
 // Check 2, for a buffer of a size: an end place that isn't above the one before falls back or gives length 0.
@@ -59,33 +57,57 @@ pub fn good_bytes(names: &[u8]) -> bool
     true
 }
 
-// Check 4.
-pub fn is_rising<'a>(names: &'a [u8], ends: &'a [u32]) -> bool
-    ensures { result ≡ rising (names_of names.now ends.now) }
-{
-    for i in 1..ends.len() {
-        if !less(name_of(names, ends, i - 1), name_of(names, ends, i)) {
-            return false;
-        }
+impl<'a> Directory<'a> {
+    // How many names there are.
+    pub fn count(self) -> usize
+        ensures { result ≡ length (names_of self.entry.names.now self.entry.ends.now) }
+    {
+        self.ends.len()
     }
-    true
-}
 
-// 0, or the number of the check that refuses: the lowest that is met. The C interface hands the number on.
-pub fn check_directory<'a>(names: &'a [u8], ends: &'a [u32]) -> u8
-    ensures { result ≡ directory_check max_names max_name_length names.now ends.now }
-{
-    if ends.len() == 0 || MAX_NAMES < ends.len() {
-        return 1;
+    // A tag's name; no bytes for a tag that the directory does not have.
+    pub fn name(self, tag: usize) -> &'a [u8]
+        ensures { result.now ≡ name_at self.entry.names.now self.entry.ends.now tag }
+    {
+        if self.ends.len() <= tag {
+            return part(self.names, 0, 0);
+        }
+        let from = if tag == 0 {
+            0
+        } else {
+            self.ends[tag - 1] as usize
+        };
+        part(self.names, from, self.ends[tag] as usize)
     }
-    if !good_ends(ends, names.len()) {
-        return 2;
+
+    // Check 4.
+    pub fn is_rising(self) -> bool
+        ensures { result ≡ rising (names_of self.entry.names.now self.entry.ends.now) }
+    {
+        for i in 1..self.ends.len() {
+            if !less(self.name(i - 1), self.name(i)) {
+                return false;
+            }
+        }
+        true
     }
-    if !good_bytes(names) {
-        return 3;
+
+    // Checks 1 to 4; the lowest that is met refuses.
+    pub fn check(self) -> Result<(), Refusal>
+        ensures { code result ≡ directory_check max_names max_name_length self.entry.names.now self.entry.ends.now }
+    {
+        if self.ends.len() == 0 || MAX_NAMES < self.ends.len() {
+            return Err(Refusal::NameCount);
+        }
+        if !good_ends(self.ends, self.names.len()) {
+            return Err(Refusal::NameEnds);
+        }
+        if !good_bytes(self.names) {
+            return Err(Refusal::NameBytes);
+        }
+        if !self.is_rising() {
+            return Err(Refusal::NameOrder);
+        }
+        Ok(())
     }
-    if !is_rising(names, ends) {
-        return 4;
-    }
-    0
 }

@@ -17,7 +17,6 @@ use Rattle.capi.proofs.Links as capi
 use Rattle.checks.proofs.Links as checks
 use Rattle.cycles.proofs.Links as cycles
 use Rattle.descriptions.proofs.Links as descriptions
-use Rattle.directory.proofs.Links as directory
 use Rattle.engine.proofs.Links as engine
 use Rattle.entries.proofs.Links as entries
 use Rattle.fields.proofs.Links as fields
@@ -32,6 +31,7 @@ use Rattle.panel.proofs.Links as panel
 use Rattle.queue.proofs.Links as queue
 use Rattle.ranks.proofs.Links as ranks
 use Rattle.readings.proofs.Links as readings
+use Rattle.refusals.proofs.Links as refusals
 use Rattle.removal.proofs.Links as removal
 use Rattle.replies.proofs.Links as replies
 use Rattle.results.proofs.Links as results
@@ -71,7 +71,6 @@ world =
     ∷ (codes "checks", checks.table)
     ∷ (codes "cycles", cycles.table)
     ∷ (codes "descriptions", descriptions.table)
-    ∷ (codes "directory", directory.table)
     ∷ (codes "engine", engine.table)
     ∷ (codes "entries", entries.table)
     ∷ (codes "fields", fields.table)
@@ -86,6 +85,7 @@ world =
     ∷ (codes "queue", queue.table)
     ∷ (codes "ranks", ranks.table)
     ∷ (codes "readings", readings.table)
+    ∷ (codes "refusals", refusals.table)
     ∷ (codes "removal", removal.table)
     ∷ (codes "replies", replies.table)
     ∷ (codes "results", results.table)
@@ -128,7 +128,8 @@ in_words f = f world refl below_words
 
 below_entries : entries.Below world
 below_entries =
-    in_memory memory.rows_put_row_cell & in_memory memory.rows_row_cell & in_words words.entry_entry_words & in_words words.entry_held_from & tt
+    in_memory memory.rows_put_row_cell & in_memory memory.rows_row_cell & in_words words.entry_EntryWordsFromEntry_from
+    & in_words words.entry_held_from & tt
 
 in_entries : {T : World → Type 0} → ((W : World) → Holds W "entries" entries.table → entries.Below W → T W) → T world
 unfolding world
@@ -136,9 +137,9 @@ in_entries f = f world refl below_entries
 
 below_table : table.Below world
 below_table =
-    in_memory memory.rows_put_row & in_memory memory.rows_row & in_words words.entry_held_from & in_words words.entry_held_words
-    & in_words words.scalar_float_of_word & in_words words.scalar_word_of_flag & in_words words.scalar_word_of_float & in_words words.time_time_from
-    & in_words words.time_time_words & tt
+    in_memory memory.rows_put_row & in_memory memory.rows_row & in_words words.entry_EntryWordsFromOptionEntry_from & in_words words.entry_held_from
+    & in_words words.scalar_float_of_word & in_words words.scalar_word_of_flag & in_words words.scalar_word_of_float
+    & in_words words.time_TimeWordsFromOptionF64_from & in_words words.time_time_from & tt
 
 in_table : {T : World → Type 0} → ((W : World) → Holds W "table" table.table → table.Below W → T W) → T world
 unfolding world
@@ -146,10 +147,10 @@ in_table f = f world refl below_table
 
 below_fields : fields.Below world
 below_fields =
-    in_memory memory.rows_put_row_cell & in_memory memory.rows_row_cell & in_table table.codec_description_from
-    & in_table table.codec_description_word & in_table table.codec_grace_from & in_table table.codec_grace_words & in_table table.codec_settings_from
-    & in_table table.codec_timing_from & in_words words.scalar_word_of_flag & in_words words.scalar_word_of_float & in_words words.time_time_words
-    & tt
+    in_memory memory.rows_put_row_cell & in_memory memory.rows_row_cell & in_table table.codec_GraceWordsFromOptionGrace_from
+    & in_table table.codec_description_from & in_table table.codec_description_word & in_table table.codec_grace_from
+    & in_table table.codec_settings_from & in_table table.codec_timing_from & in_words words.scalar_word_of_flag & in_words words.scalar_word_of_float
+    & in_words words.time_TimeWordsFromOptionF64_from & tt
 
 in_fields : {T : World → Type 0} → ((W : World) → Holds W "fields" fields.table → fields.Below W → T W) → T world
 unfolding world
@@ -157,7 +158,8 @@ in_fields f = f world refl below_fields
 
 below_groups : groups.Below world
 below_groups =
-    in_memory memory.cells_cell & in_memory memory.cells_put_cell & in_words words.time_time_from & in_words words.time_time_words & tt
+    in_memory memory.cells_cell & in_memory memory.cells_put_cell & in_words words.time_TimeWordsFromOptionF64_from & in_words words.time_time_from
+    & tt
 
 in_groups : {T : World → Type 0} → ((W : World) → Holds W "groups" groups.table → groups.Below W → T W) → T world
 unfolding world
@@ -173,7 +175,7 @@ in_tags f = f world refl below_tags
 
 below_lent : lent.Below world
 below_lent =
-    in_entries entries.published_of & in_tags tags.at & in_tags tags.count & in_words words.entry_held_words & tt
+    in_entries entries.published_of & in_tags tags.at & in_tags tags.count & in_words words.entry_EntryWordsFromOptionEntry_from & tt
 
 in_lent : {T : World → Type 0} → ((W : World) → Holds W "lent" lent.table → lent.Below W → T W) → T world
 unfolding world
@@ -181,8 +183,8 @@ in_lent f = f world refl below_lent
 
 below_queue : queue.Below world
 below_queue =
-    in_memory memory.cells_cell & in_memory memory.cells_put_cell & in_tags tags.clear & in_tags tags.push & in_words words.value_value_from
-    & in_words words.value_value_words & tt
+    in_memory memory.cells_cell & in_memory memory.cells_places & in_memory memory.cells_put_cell & in_tags tags.clear & in_tags tags.push
+    & in_words words.value_ValueWordsFromValue_from & in_words words.value_value_from & tt
 
 in_queue : {T : World → Type 0} → ((W : World) → Holds W "queue" queue.table → queue.Below W → T W) → T world
 unfolding world
@@ -209,21 +211,6 @@ in_board : {T : World → Type 0} → ((W : World) → Holds W "board" board.tab
 unfolding world
 in_board f = f world refl below_board
 
-below_names : names.Below world
-below_names = tt
-
-in_names : {T : World → Type 0} → ((W : World) → Holds W "names" names.table → names.Below W → T W) → T world
-unfolding world
-in_names f = f world refl below_names
-
-below_directory : directory.Below world
-below_directory =
-    in_names names.directory_check_directory & in_names names.directory_name_of & tt
-
-in_directory : {T : World → Type 0} → ((W : World) → Holds W "directory" directory.table → directory.Below W → T W) → T world
-unfolding world
-in_directory f = f world refl below_directory
-
 below_ieee : ieee.Below world
 below_ieee = tt
 
@@ -239,6 +226,13 @@ below_heads =
 in_heads : {T : World → Type 0} → ((W : World) → Holds W "heads" heads.table → heads.Below W → T W) → T world
 unfolding world
 in_heads f = f world refl below_heads
+
+below_names : names.Below world
+below_names = tt
+
+in_names : {T : World → Type 0} → ((W : World) → Holds W "names" names.table → names.Below W → T W) → T world
+unfolding world
+in_names f = f world refl below_names
 
 below_tiers : tiers.Below world
 below_tiers =
@@ -270,8 +264,8 @@ in_results f = f world refl below_results
 
 below_settings : settings.Below world
 below_settings =
-    in_ieee ieee.number_is_finite & in_memory memory.cells_cell & in_memory memory.cells_put_cell & in_table table.codec_settings_from
-    & in_table table.tag_Settings_none & in_words words.scalar_float_of_word & tt
+    in_ieee ieee.number_is_finite & in_memory memory.cells_cell & in_memory memory.cells_places & in_memory memory.cells_put_cell
+    & in_table table.codec_settings_from & in_table table.tag_Settings_none & in_words words.scalar_float_of_word & tt
 
 in_settings : {T : World → Type 0} → ((W : World) → Holds W "settings" settings.table → settings.Below W → T W) → T world
 unfolding world
@@ -279,9 +273,10 @@ in_settings f = f world refl below_settings
 
 below_checks : checks.Below world
 below_checks =
-    in_board board.tag_lists_order_count & in_board board.waiting_queued & in_directory directory.check_in & in_heads heads.link_is_state
-    & in_heads heads.options_check_options & in_ieee ieee.times_is_clock & in_panel panel.check_check_panel & in_results results.check_is_finite_value
-    & in_settings settings.configured_check_configured & in_settings settings.setting_check_settings & tt
+    in_board board.tag_lists_order_count & in_board board.waiting_queued & in_heads heads.link_is_state & in_heads heads.options_check_options
+    & in_ieee ieee.times_is_clock & in_names names.directory_Directory_check & in_names names.directory_Directory_count
+    & in_panel panel.check_check_panel & in_results results.check_is_finite_value & in_settings settings.configured_check_configured
+    & in_settings settings.setting_check_settings & tt
 
 in_checks : {T : World → Type 0} → ((W : World) → Holds W "checks" checks.table → checks.Below W → T W) → T world
 unfolding world
@@ -289,11 +284,11 @@ in_checks f = f world refl below_checks
 
 below_engine : engine.Below world
 below_engine =
-    in_heads heads.link_Link_fresh & in_heads heads.link_link_from & in_heads heads.link_link_words & in_heads heads.progress_Progress_fresh
-    & in_heads heads.progress_progress_from & in_heads heads.progress_progress_words & in_heads heads.stats_Stats_fresh
-    & in_heads heads.stats_stats_from & in_heads heads.stats_stats_words & in_memory memory.rows_put_row & in_memory memory.rows_put_row_cell
-    & in_memory memory.rows_row & in_words words.scalar_float_of_word & in_words words.scalar_word_of_float & in_words words.time_time_from
-    & in_words words.time_time_words & tt
+    in_heads heads.link_Link_fresh & in_heads heads.link_LinkWordsFromLink_from & in_heads heads.link_link_from
+    & in_heads heads.progress_Progress_fresh & in_heads heads.progress_ProgressWordsFromProgress_from & in_heads heads.progress_progress_from
+    & in_heads heads.stats_Stats_fresh & in_heads heads.stats_StatsWordsFromStats_from & in_heads heads.stats_stats_from
+    & in_memory memory.rows_put_row & in_memory memory.rows_put_row_cell & in_memory memory.rows_row & in_words words.scalar_float_of_word
+    & in_words words.scalar_word_of_float & in_words words.time_TimeWordsFromOptionF64_from & in_words words.time_time_from & tt
 
 in_engine : {T : World → Type 0} → ((W : World) → Holds W "engine" engine.table → engine.Below W → T W) → T world
 unfolding world
@@ -301,7 +296,8 @@ in_engine f = f world refl below_engine
 
 below_ranks : ranks.Below world
 below_ranks =
-    in_memory memory.halves_put_half & in_names names.keys_is_bit & in_names names.keys_sort_key & in_names names.keys_word_of & tt
+    in_memory memory.halves_put_half & in_names names.directory_Directory_count & in_names names.directory_Directory_is_bit
+    & in_names names.directory_Directory_sort_key & in_names names.directory_Directory_word_of & tt
 
 in_ranks : {T : World → Type 0} → ((W : World) → Holds W "ranks" ranks.table → ranks.Below W → T W) → T world
 unfolding world
@@ -326,6 +322,13 @@ in_fresh : {T : World → Type 0} → ((W : World) → Holds W "fresh" fresh.tab
 unfolding world
 in_fresh f = f world refl below_fresh
 
+below_refusals : refusals.Below world
+below_refusals = tt
+
+in_refusals : {T : World → Type 0} → ((W : World) → Holds W "refusals" refusals.table → refusals.Below W → T W) → T world
+unfolding world
+in_refusals f = f world refl below_refusals
+
 below_values : values.Below world
 below_values =
     in_ieee ieee.band_is_within & in_ieee ieee.round_from_i64 & tt
@@ -347,10 +350,9 @@ in_apply f = f world refl below_apply
 
 below_readings : readings.Below world
 below_readings =
-    in_apply apply.reading_apply_at & in_apply apply.reading_apply_result & in_board board.parts_back_of & in_board board.parts_table_of
-    & in_board board.starts_order_start & in_board board.starts_table_start & in_board board.tag_lists_asked_at & in_board board.tag_lists_asked_count
-    & in_lent lent.changes_put_changes & in_results results.result_result_at & in_tags tags.at & in_tags tags.clear & in_tags tags.contains
-    & in_tags tags.count & in_tags tags.push & tt
+    in_apply apply.reading_apply_result & in_board board.parts_back_of & in_board board.parts_table_of & in_board board.starts_order_start
+    & in_board board.starts_table_start & in_board board.tag_lists_asked_at & in_board board.tag_lists_asked_count & in_lent lent.changes_put_changes
+    & in_lent lent.put_bytes & in_tags tags.at & in_tags tags.clear & in_tags tags.contains & in_tags tags.count & in_tags tags.push & tt
 
 in_readings : {T : World → Type 0} → ((W : World) → Holds W "readings" readings.table → readings.Below W → T W) → T world
 unfolding world
@@ -370,7 +372,7 @@ below_writes =
     in_board board.parts_asked_of & in_board board.parts_queue_of & in_board board.tag_word_of & in_board board.tag_lists_asked_count
     & in_board board.tag_lists_clear_asked & in_board board.tag_lists_push_asked & in_board board.tag_lists_shorten_asked
     & in_board board.waiting_clear_queue & in_board board.waiting_put_back & in_lent lent.put_tags & in_queue queue.list_queued
-    & in_results results.result_result_at & in_tags tags.count & in_values values.entry_is_good & in_values values.entry_quality_of & tt
+    & in_results results.result_result_at & in_tags tags.count & tt
 
 in_writes : {T : World → Type 0} → ((W : World) → Holds W "writes" writes.table → writes.Below W → T W) → T world
 unfolding world
@@ -380,8 +382,8 @@ below_replies : replies.Below world
 below_replies =
     in_board board.waiting_queued & in_engine engine.Engine_backoff & in_engine engine.with_link & in_engine engine.with_progress
     & in_heads heads.link_is_state & in_heads heads.link_state_number & in_heads heads.link_with_attempt & in_heads heads.link_with_state
-    & in_heads heads.progress_with_phase & in_heads heads.stats_more & in_stale stale.mark_stale & in_words words.value_value_words
-    & in_writes writes.failing_fail_writes & tt
+    & in_heads heads.progress_with_phase & in_heads heads.stats_more & in_refusals refusals.Refusal_number & in_stale stale.mark_stale
+    & in_words words.value_ValueWordsFromValue_from & in_writes writes.failing_fail_writes & tt
 
 in_replies : {T : World → Type 0} → ((W : World) → Holds W "replies" replies.table → replies.Below W → T W) → T world
 unfolding world
@@ -403,11 +405,20 @@ below_shown =
     & in_board board.parts_table_of & in_board board.tag_cached_of & in_board board.tag_description_of & in_board board.tag_tier_of
     & in_board board.tag_lists_order_at & in_board board.tag_lists_order_count & in_heads heads.link_state_number & in_lent lent.put_record
     & in_panel panel.write_write_panel & in_statistics statistics.counts_tier_count & in_statistics statistics.group_stats
-    & in_words words.entry_held_words & tt
+    & in_words words.entry_EntryWordsFromOptionEntry_from & tt
 
 in_shown : {T : World → Type 0} → ((W : World) → Holds W "shown" shown.table → shown.Below W → T W) → T world
 unfolding world
 in_shown f = f world refl below_shown
+
+below_step_checks : step_checks.Below world
+below_step_checks =
+    in_board board.tag_lists_asked_count & in_ieee ieee.times_is_clock & in_results results.check_check_results
+    & in_settings settings.setting_check_settings & tt
+
+in_step_checks : {T : World → Type 0} → ((W : World) → Holds W "step_checks" step_checks.table → step_checks.Below W → T W) → T world
+unfolding world
+in_step_checks f = f world refl below_step_checks
 
 below_descriptions : descriptions.Below world
 below_descriptions =
@@ -448,8 +459,7 @@ below_cycles =
     in_board board.tag_lists_asked_count & in_board board.waiting_pop_write & in_descriptions descriptions.ask_descriptions
     & in_engine engine.with_cycle & in_engine engine.with_progress & in_engine engine.with_stats & in_heads heads.progress_with_round
     & in_heads heads.progress_with_writing & in_heads heads.stats_read_stats & in_heads heads.stats_tail_stats & in_replies replies.losing_ended
-    & in_replies replies.losing_phased & in_replies replies.reply_Reply_listed & in_replies replies.reply_Reply_wait
-    & in_replies replies.reply_Reply_write & in_rounds rounds.round_cycle_tags & in_writes writes.request_put_asked & tt
+    & in_replies replies.losing_phased & in_rounds rounds.round_cycle_tags & in_writes writes.request_put_asked & tt
 
 in_cycles : {T : World → Type 0} → ((W : World) → Holds W "cycles" cycles.table → cycles.Below W → T W) → T world
 unfolding world
@@ -462,35 +472,24 @@ below_step_answers =
     & in_heads heads.link_is_state & in_heads heads.link_with_attempt & in_heads heads.link_with_state & in_heads heads.link_with_version
     & in_heads heads.stats_reconnected & in_heads heads.stats_reloaded & in_heads heads.version_is_reloaded & in_readings readings.kept_apply_back
     & in_readings readings.listed_apply & in_replies replies.losing_down & in_replies replies.losing_ended & in_replies replies.losing_failing
-    & in_replies replies.losing_phased & in_replies replies.losing_top & in_replies replies.reply_Reply_listed & in_replies replies.reply_Reply_status
-    & in_replies replies.reply_Reply_was_lost & in_replies replies.reply_Reply_was_refused & in_replies replies.reply_Reply_went_through
-    & in_versions versions.check_check_version & in_writes writes.readback_ask_read_back & in_writes writes.readback_keep_back
-    & in_writes writes.readback_read_back_value & in_writes writes.request_put_asked & tt
+    & in_replies replies.losing_phased & in_replies replies.losing_top & in_versions versions.check_check_version
+    & in_writes writes.readback_ask_read_back & in_writes writes.readback_keep_back & in_writes writes.readback_read_back_value
+    & in_writes writes.request_put_asked & tt
 
 in_step_answers : {T : World → Type 0} → ((W : World) → Holds W "step_answers" step_answers.table → step_answers.Below W → T W) → T world
 unfolding world
 in_step_answers f = f world refl below_step_answers
-
-below_step_checks : step_checks.Below world
-below_step_checks =
-    in_board board.tag_lists_asked_count & in_ieee ieee.times_is_clock & in_results results.check_check_results
-    & in_settings settings.setting_check_settings & tt
-
-in_step_checks : {T : World → Type 0} → ((W : World) → Holds W "step_checks" step_checks.table → step_checks.Below W → T W) → T world
-unfolding world
-in_step_checks f = f world refl below_step_checks
 
 below_worker : worker.Below world
 below_worker =
     in_cycles cycles.polling_checking & in_cycles cycles.polling_finish & in_cycles cycles.polling_polls & in_cycles cycles.polling_reading
     & in_cycles cycles.polling_writing & in_engine engine.with_clock & in_replies replies.losing_backing_off & in_replies replies.losing_disconnected
     & in_replies replies.losing_down & in_replies replies.losing_phased & in_replies replies.losing_staling & in_replies replies.losing_top
-    & in_replies replies.reply_Reply_listed & in_replies replies.reply_Reply_refused & in_step_answers step_answers.answers_back_applied
-    & in_step_answers step_answers.answers_backed_off & in_step_answers step_answers.answers_connected
-    & in_step_answers step_answers.answers_descriptions & in_step_answers step_answers.answers_open_version
-    & in_step_answers step_answers.answers_opened & in_step_answers step_answers.answers_read_back & in_step_answers step_answers.answers_results
-    & in_step_answers step_answers.answers_round_version & in_step_answers step_answers.answers_waited & in_step_answers step_answers.answers_written
-    & in_step_checks step_checks.awaiting_step_check & tt
+    & in_step_answers step_answers.answers_back_applied & in_step_answers step_answers.answers_backed_off
+    & in_step_answers step_answers.answers_connected & in_step_answers step_answers.answers_descriptions
+    & in_step_answers step_answers.answers_open_version & in_step_answers step_answers.answers_opened & in_step_answers step_answers.answers_read_back
+    & in_step_answers step_answers.answers_results & in_step_answers step_answers.answers_round_version & in_step_answers step_answers.answers_waited
+    & in_step_answers step_answers.answers_written & in_step_checks step_checks.awaiting_step_check & tt
 
 in_worker : {T : World → Type 0} → ((W : World) → Holds W "worker" worker.table → worker.Below W → T W) → T world
 unfolding world
@@ -501,10 +500,11 @@ below_capi =
     in_board board.starts_is_board_size & in_board board.starts_size_for & in_board board.waiting_push_write & in_checks checks.calls_load_check
     & in_checks checks.calls_tier_check & in_checks checks.calls_write_check & in_checks checks.creation_creation_check
     & in_engine engine.Engine_fresh & in_engine engine.load & in_engine engine.put_clock & in_engine engine.store & in_engine engine.with_link
-    & in_fresh fresh.create & in_heads heads.link_stopped & in_panel panel.load_load_panel & in_replies replies.reply_Reply_refused
-    & in_shown shown.counts_counts_of & in_shown shown.counts_no_counts & in_shown shown.head_no_state & in_shown shown.head_no_stats
-    & in_shown shown.head_state_of & in_shown shown.head_stats_of & in_shown shown.list_looks_group_stats & in_shown shown.list_looks_listed
-    & in_shown shown.list_looks_panel & in_shown shown.list_looks_table & in_shown shown.tag_no_look & in_shown shown.tag_tag
+    & in_fresh fresh.create & in_heads heads.link_stopped & in_panel panel.load_load_panel & in_refusals refusals.Refusal_number
+    & in_replies replies.reply_Reply_refused & in_replies replies.response_Response_reply & in_shown shown.counts_counts_of
+    & in_shown shown.counts_no_counts & in_shown shown.head_no_state & in_shown shown.head_no_stats & in_shown shown.head_state_of
+    & in_shown shown.head_stats_of & in_shown shown.list_looks_group_stats & in_shown shown.list_looks_listed & in_shown shown.list_looks_panel
+    & in_shown shown.list_looks_table & in_shown shown.tag_no_look & in_shown shown.tag_tag & in_step_checks step_checks.answer_kind_from
     & in_tiers tiers.grace_set_tier & in_words words.value_value_from & in_worker worker.steps_step & tt
 
 in_capi : {T : World → Type 0} → ((W : World) → Holds W "capi" capi.table → capi.Below W → T W) → T world

@@ -4,9 +4,9 @@ use mathlib.Core.List.{List, [], ◌∷◌, ◌++◌}
 use Prim.Native.Nat.{ℕ, zero, suc, ◌+◌, ◌-◌, ◌*◌, ◌/◌, ◌%◌, ◌≤◌, ◌<◌, min}
 use native.Mathlib.Numerals.{add-one}
 use native.Mathlib.Omega.{arith}
-use borrow.Author.Tests.{lt-ltb, le-ltb}
+use borrow.Author.Tests.{lt-ltb}
 use lib.ListN.{length, get_or, set, take, drop, length-take, length-drop, length-map, get_or-append, get_or-eq_default, get_or-map}
-use lib.Seq.{sets, take_all, take-nil, take-take, take-suc, take-suc-set, drop-drop, drop-set-add, drop-set-lt, get_or-take, get_or-drop, get_or-set_same, set_out}
+use lib.Seq.{sets, take-nil, take-take, take-suc, take-suc-set, drop-drop, drop-set-add, drop-set-lt, get_or-take, get_or-drop, get_or-set_same, set_out}
 use Rattle.std.specs.Prelude.{Some}
 use Rattle.words.specs.Value.{value_from}
 use Rattle.memory.specs.Blocks.{blocks}

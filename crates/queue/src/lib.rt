@@ -6,9 +6,9 @@ ghost use Rattle.std.specs.Prelude.{◌≡◌, [], ◌-◌, length, get_or, set,
 ghost use Rattle.tags.specs.Lists.{list_in, room, fitted};
 ghost use Rattle.queue.specs.Queue.{no_write, queue_room, places_in, queue_in, queued_with, popped, rest, write_tags};
 
-use memory::cells::{cell, put_cell};
+use memory::cells::{cell, places, put_cell};
 use values::value::Value;
-use words::value::{value_from, value_words};
+use words::value::{ValueWords, value_from};
 
 // A write that waits.
 #[derive(Clone, Copy)]
@@ -21,8 +21,7 @@ pub struct Write {
 pub fn room_of(q: &[u8]) -> usize
     ensures { result ≡ queue_room q.now }
 {
-    let cells = q.len() / 8;
-    if cells == 0 { 0 } else { (cells - 1) / 3 }
+    places(q, 3)
 }
 
 // The stored count; where that is above the places there are, all of them.
@@ -55,7 +54,7 @@ fn put_place(q: &mut [u8], i: usize, w: Write)
     if room_of(q) <= i {
         return;
     }
-    let v = value_words(w.value);
+    let v = ValueWords::from(w.value);
     put_cell(q, 3 * i + 1, w.tag as u64);
     put_cell(q, 3 * i + 2, v.kind);
     put_cell(q, 3 * i + 3, v.word);

@@ -1,7 +1,7 @@
 -- The changes that were listed are told.
-use mathlib.Core.Path.{◌≡◌, ap, ◌∙◌}
+use mathlib.Core.Path.{◌≡◌, refl, ap, ◌∙◌}
 use mathlib.Core.Bool.{Bool}
-use mathlib.Core.List.{List}
+use mathlib.Core.List.{List, [], ◌∷◌}
 use Prim.Native.Nat.{ℕ, ◌≤◌, min}
 use native.Mathlib.Omega.{arith}
 use lib.Ieee.{Float}
@@ -13,13 +13,21 @@ use Rattle.lists.proofs.KeepLaws.{length-keep, length-up_to}
 use Rattle.tags.specs.Lists.{list_in, member, fitted}
 use Rattle.table.specs.Table.{by_rank}
 use Rattle.table.specs.declared.tag.Tag.{Tag}
-use Rattle.lent.specs.Lent.{cell_bytes, wrote_all}
+use Rattle.lent.specs.Lent.{cell_bytes, over_bytes, wrote_all}
 use Rattle.names.specs.Directory.{max_names}
 use Rattle.board.specs.Layout.{IsBoard}
 use Rattle.board.specs.Board.{Board, Holds, board_in}
 use Rattle.board.proofs.BoardLaws.{tags_counted}
 use Rattle.readings.specs.Listed.{Applied, apply_all, in_tag_order}
 use Rattle.readings.specs.Changes.{Changed, Changing, applied_to, changes_in}
+
+-- as many bytes as there were, all of them written
+pub over_whole : (out bytes : List ℕ) → length out ≡ length bytes → over_bytes out bytes ≡ bytes
+unfolding over_bytes
+over_whole [] [] h = refl
+over_whole [] (b ∷ bytes) h = absurd (omega arith)
+over_whole (o ∷ out) [] h = absurd (omega arith)
+over_whole (o ∷ out) (b ∷ bytes) h = ap (λ (l : List ℕ). b ∷ l) (over_whole out bytes (omega arith))
 
 -- The list told is that of C, and bs' holds its board.
 pub told : (C : Changed) (bs' list out out' : List ℕ) (r : ℕ) → Holds bs' C.board → list ≡ C.changes

@@ -1,7 +1,7 @@
 -- Rule 7: the readings of a list of tags.
 use Rattle.std.specs.Prelude.{◌≡◌, Bool, cond, List, [], ◌∷◌, ◌++◌, ℕ, suc, ℤ, Float, take}
 use Rattle.lists.specs.Keep.{keep}
-use Rattle.values.specs.declared.entry.TagResult.{TagResult}
+use Rattle.values.specs.Entry.{TagResult}
 use Rattle.tags.specs.Lists.{list_in, member}
 use Rattle.table.specs.Table.{by_rank}
 use Rattle.table.specs.declared.tag.Tag.{Tag}

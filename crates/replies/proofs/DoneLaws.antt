@@ -6,7 +6,7 @@ use Prim.Native.Nat.{ℕ}
 use Rattle.lent.specs.Lent.{over_bytes, wrote_all, has_room}
 use Rattle.lent.proofs.LentLaws.{over_none}
 use Rattle.board.specs.Board.{Board, board_in}
-use Rattle.replies.specs.declared.reply.Said.{Said}
+use Rattle.replies.specs.declared.response.Said.{Said}
 use Rattle.replies.specs.Worker.{Told, Done, Quietly}
 
 -- nothing is written where there are no bytes

@@ -13,14 +13,8 @@ use Rattle.replies.proofs.TheLinks.replies-losing-failing
 use Rattle.replies.proofs.TheLinks.replies-losing-phased
 use Rattle.replies.proofs.TheLinks.replies-losing-staling
 use Rattle.replies.proofs.TheLinks.replies-losing-top
-use Rattle.replies.proofs.TheLinks.replies-reply-Reply-listed
 use Rattle.replies.proofs.TheLinks.replies-reply-Reply-refused
-use Rattle.replies.proofs.TheLinks.replies-reply-Reply-status
-use Rattle.replies.proofs.TheLinks.replies-reply-Reply-wait
-use Rattle.replies.proofs.TheLinks.replies-reply-Reply-was_lost
-use Rattle.replies.proofs.TheLinks.replies-reply-Reply-was_refused
-use Rattle.replies.proofs.TheLinks.replies-reply-Reply-went_through
-use Rattle.replies.proofs.TheLinks.replies-reply-Reply-write
+use Rattle.replies.proofs.TheLinks.replies-response-Response-reply
 
 abbrev pub table : Tree
 table = link.table
@@ -55,26 +49,8 @@ losing_staling = link.linked-replies::losing::staling
 pub losing_top : Linked replies-losing-top.code
 losing_top = link.linked-replies::losing::top
 
-pub reply_Reply_listed : Linked replies-reply-Reply-listed.code
-reply_Reply_listed = link.linked-replies::reply::Reply::listed
-
 pub reply_Reply_refused : Linked replies-reply-Reply-refused.code
 reply_Reply_refused = link.linked-replies::reply::Reply::refused
 
-pub reply_Reply_status : Linked replies-reply-Reply-status.code
-reply_Reply_status = link.linked-replies::reply::Reply::status
-
-pub reply_Reply_wait : Linked replies-reply-Reply-wait.code
-reply_Reply_wait = link.linked-replies::reply::Reply::wait
-
-pub reply_Reply_was_lost : Linked replies-reply-Reply-was_lost.code
-reply_Reply_was_lost = link.linked-replies::reply::Reply::was_lost
-
-pub reply_Reply_was_refused : Linked replies-reply-Reply-was_refused.code
-reply_Reply_was_refused = link.linked-replies::reply::Reply::was_refused
-
-pub reply_Reply_went_through : Linked replies-reply-Reply-went_through.code
-reply_Reply_went_through = link.linked-replies::reply::Reply::went_through
-
-pub reply_Reply_write : Linked replies-reply-Reply-write.code
-reply_Reply_write = link.linked-replies::reply::Reply::write
+pub response_Response_reply : Linked replies-response-Response-reply.code
+response_Response_reply = link.linked-replies::response::Response::reply

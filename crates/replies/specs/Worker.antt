@@ -12,17 +12,15 @@ use Rattle.heads.specs.declared.stats.Stats.{Stats}
 use Rattle.engine.specs.Engine.{with_link, with_progress, with_stats}
 use Rattle.engine.specs.declared.Engine.{Engine}
 use Rattle.board.specs.Board.{Board, board_in}
+use Rattle.replies.specs.Reply.{reply_of}
+use Rattle.replies.specs.declared.at.At.{At}
 use Rattle.replies.specs.declared.reply.Reply.{Reply}
-use Rattle.replies.specs.declared.reply.Said.{Said}
+use Rattle.replies.specs.declared.response.Response.{Response}
+use Rattle.replies.specs.declared.response.Said.{Said}
 
 pub record Worker : Type 0 where
   pub head : Engine
   pub board : Board
-
--- the clock reading and the wall time of a step
-pub record At : Type 0 where
-  pub clock : Float
-  pub wall : ℤ
 
 -- What a step comes to: the engine it leaves, what it gives back, the bytes of the lent list, and the round that it worked out, if it did.
 pub record Told : Type 0 where
@@ -56,6 +54,7 @@ tallied W x = worker (with_stats W.head x) W.board
 abbrev pub asks : Worker → Phase → Reply → Told
 asks W p r = tell (phased W p) r []
 
+-- the clock reading and the wall time of a step
 abbrev pub at : Float → ℤ → At
 at clock wall = record { clock = clock; wall = wall }
 
@@ -64,20 +63,20 @@ abbrev pub goes_on : Told → Bool
 goes_on T = eqb T.reply.kind 0
 
 -- what is said with the head in the phase p
-abbrev pub said_in : Engine → Phase → Reply → Said
-said_in e p r = record { reply = r; head = with_progress e (with_phase e.progress p) }
+abbrev pub said_in : Engine → Phase → Response → Said
+said_in e p r = record { response = r; head = with_progress e (with_phase e.progress p) }
 
 -- What was done is T: the head and the memory afterwards, the answer, and the lent list, which nothing was written into where nothing is told yet.
 pub record Done (T : Told) (s : Said) (board' out out' : List ℕ) : Type 0 where
   pub head_is : s.head ≡ T.left.head
   pub board_is : board_in board' ≡ T.left.board
-  pub reply_is : s.reply ≡ T.reply
+  pub reply_is : reply_of s.response ≡ T.reply
   pub out_is : out' ≡ wrote_all out T.bytes
   pub silent : goes_on T ≡ true → T.bytes ≡ []
 
 -- What was said is T, which leaves the board B and the lent list as they are.
 pub record Quietly (T : Told) (s : Said) (B : Board) : Type 0 where
   pub head_is : s.head ≡ T.left.head
-  pub reply_is : s.reply ≡ T.reply
+  pub reply_is : reply_of s.response ≡ T.reply
   pub board_kept : T.left.board ≡ B
   pub nothing : T.bytes ≡ []

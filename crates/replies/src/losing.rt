@@ -5,7 +5,7 @@ ghost use Rattle.board.specs.Layout.{IsBoard};
 ghost use Rattle.replies.specs.Worker.{worker, said_in, Done, Quietly};
 ghost use Rattle.replies.specs.Losing.{failing, ended, backing_off, disconnected, staling, down, top};
 
-use super::reply::{Reply, Said};
+use super::response::{Response, Said};
 use board::waiting::queued;
 use engine::{Engine, with_link, with_progress};
 use heads::link::{State, is_state, with_attempt, with_state};
@@ -15,11 +15,11 @@ use stale::mark_stale;
 use writes::failing::fail_writes;
 
 // Something is asked or told, and the engine waits in the phase p.
-pub fn phased(e: Engine, p: Phase, r: Reply) -> Said
+pub fn phased(e: Engine, p: Phase, r: Response) -> Said
     ensures { result ≡ said_in e p r }
 {
     Said {
-        reply: r,
+        response: r,
         head: with_progress(e, with_phase(e.progress, p)),
     }
 }
@@ -30,7 +30,7 @@ pub fn failing(board: &mut [u8], out: &mut [u8], e: Engine, p: Phase) -> Said
     ensures { Done (failing (worker e (board_in board.old)) p) result board.new out.old out.new }
 {
     let n = fail_writes(board, out);
-    phased(e, p, Reply::listed(Reply::FAILED, n as u64))
+    phased(e, p, Response::Failed(n as u64))
 }
 
 // The state is stopped; the writes left are told with this last event.
@@ -40,11 +40,7 @@ pub fn ended(board: &mut [u8], out: &mut [u8], e: Engine) -> Said
 {
     let n = fail_writes(board, out);
     let next = with_link(e, with_state(e.link, State::Stopped));
-    phased(
-        next,
-        Phase::Stopped,
-        Reply::listed(Reply::STOPPED, n as u64),
-    )
+    phased(next, Phase::Stopped, Response::Stopped(n as u64))
 }
 
 // The wait before the next attempt.
@@ -53,7 +49,11 @@ pub fn backing_off(e: Engine) -> Said
 {
     let attempt = e.link.attempt;
     let next = with_link(e, with_attempt(e.link, more(attempt)));
-    phased(next, Phase::Backoff, Reply::wait(Engine::backoff(attempt)))
+    phased(
+        next,
+        Phase::Backoff,
+        Response::Wait(Engine::backoff(attempt)),
+    )
 }
 
 // Status is told only on change.
@@ -67,7 +67,7 @@ pub fn disconnected(e: Engine) -> Said
     phased(
         next,
         Phase::DisconnectedTold,
-        Reply::status(State::Disconnected),
+        Response::Status(State::Disconnected),
     )
 }
 
@@ -80,7 +80,7 @@ pub fn staling(board: &mut [u8], out: &mut [u8], e: Engine) -> Said
     if n == 0 {
         return disconnected(e);
     }
-    phased(e, Phase::StaleTold, Reply::listed(Reply::VALUES, n as u64))
+    phased(e, Phase::StaleTold, Response::Values(n as u64))
 }
 
 // The connection is lost.
@@ -105,5 +105,5 @@ pub fn top(board: &mut [u8], out: &mut [u8], e: Engine) -> Said
     if e.link.stopping {
         return ended(board, out, e);
     }
-    phased(e, Phase::Connect, Reply::listed(Reply::CONNECT, 0))
+    phased(e, Phase::Connect, Response::Connect)
 }

@@ -1,11 +1,13 @@
-// What a call gives back.
+// What a call gives back, in numbers.
 ghost use Rattle.std.specs.Prelude.{◌≡◌};
-ghost use Rattle.replies.specs.Reply.{listed, write, wait, status, went_through, was_refused, was_lost, refused};
+ghost use Rattle.refusals.specs.Refusals.{number};
+ghost use Rattle.replies.specs.Reply.{listed, valued, wait, status, outcome_of, reply_of, refused};
 
-use engine::Engine;
+use super::response::{Outcome, Response};
 use heads::link::{State, state_number};
+use refusals::Refusal;
 use values::value::Value;
-use words::value::value_words;
+use words::value::ValueWords;
 
 // `code` is 0, or the number of a refusal; then all else is 0. `count` is how many records the lent list has. `what` is the
 // state of a status, and of an outcome 0 where the write went through, 1 where the driver refused it, 2 where it was lost.
@@ -24,14 +26,7 @@ pub struct Reply {
     pub seconds: f64,
 }
 
-// The answer of a step, with the head that it leaves.
-#[derive(Clone, Copy)]
-pub struct Said {
-    pub reply: Reply,
-    pub head: Engine,
-}
-
-// Requests and events that carry no more than a list.
+// The numbers of the kinds, as the C interface has them.
 impl Reply {
     pub const GO_ON: u64 = 0;
 
@@ -63,7 +58,7 @@ impl Reply {
 
     pub const STOPPED: u64 = 14;
 
-    // The constructors say what they set, and take the rest from here.
+    // What follows says what it sets, and takes the rest from here.
     const NOTHING: Reply = Reply {
         code: 0,
         kind: 0,
@@ -77,7 +72,7 @@ impl Reply {
         seconds: 0.0,
     };
 
-    pub fn listed(kind: u64, count: u64) -> Reply
+    fn listed(kind: u64, count: u64) -> Reply
         ensures { result ≡ listed kind count }
     {
         Reply {
@@ -87,12 +82,13 @@ impl Reply {
         }
     }
 
-    pub fn write(tag: u16, value: Value) -> Reply
-        ensures { result ≡ write tag value }
+    // A write, and one that went through.
+    fn valued(kind: u64, tag: u16, value: Value) -> Reply
+        ensures { result ≡ valued kind tag value }
     {
-        let v = value_words(value);
+        let v = ValueWords::from(value);
         Reply {
-            kind: Reply::WRITE,
+            kind,
             tag: tag as u64,
             value: v.kind,
             word: v.word,
@@ -100,7 +96,7 @@ impl Reply {
         }
     }
 
-    pub fn wait(seconds: f64) -> Reply
+    fn wait(seconds: f64) -> Reply
         ensures { result ≡ wait seconds }
     {
         Reply {
@@ -110,7 +106,7 @@ impl Reply {
         }
     }
 
-    pub fn status(state: State) -> Reply
+    fn status(state: State) -> Reply
         ensures { result ≡ status state }
     {
         Reply {
@@ -120,51 +116,62 @@ impl Reply {
         }
     }
 
-    pub fn went_through(tag: u16, value: Value) -> Reply
-        ensures { result ≡ went_through tag value }
-    {
-        let v = value_words(value);
-        Reply {
-            kind: Reply::OUTCOME,
-            tag: tag as u64,
-            what: 0,
-            value: v.kind,
-            word: v.word,
-            ..Reply::NOTHING
-        }
-    }
-
-    pub fn was_refused(tag: u16, error: u64, message: u64) -> Reply
-        ensures { result ≡ was_refused tag error message }
-    {
-        Reply {
-            kind: Reply::OUTCOME,
-            tag: tag as u64,
-            what: 1,
-            error,
-            message,
-            ..Reply::NOTHING
-        }
-    }
-
-    pub fn was_lost(tag: u16) -> Reply
-        ensures { result ≡ was_lost tag }
-    {
-        Reply {
-            kind: Reply::OUTCOME,
-            tag: tag as u64,
-            what: 2,
-            ..Reply::NOTHING
-        }
-    }
-
     // A refusal: its number alone.
-    pub fn refused(code: u64) -> Reply
-        ensures { result ≡ refused code }
+    pub fn refused(refusal: Refusal) -> Reply
+        ensures { result ≡ refused (number refusal) }
     {
         Reply {
-            code,
+            code: refusal.number() as u64,
             ..Reply::NOTHING
+        }
+    }
+}
+
+impl Outcome {
+    fn reply(self, tag: u16) -> Reply
+        ensures { result ≡ outcome_of tag self }
+    {
+        match self {
+            Outcome::WentThrough(value) => Reply::valued(Reply::OUTCOME, tag, value),
+            Outcome::Refused(error, message) => Reply {
+                kind: Reply::OUTCOME,
+                tag: tag as u64,
+                what: 1,
+                error,
+                message,
+                ..Reply::NOTHING
+            },
+            Outcome::Lost => Reply {
+                kind: Reply::OUTCOME,
+                tag: tag as u64,
+                what: 2,
+                ..Reply::NOTHING
+            },
+        }
+    }
+}
+
+impl Response {
+    // The one place where what a step gives back becomes numbers.
+    pub fn reply(self) -> Reply
+        ensures { result ≡ reply_of self }
+    {
+        match self {
+            Response::GoOn => Reply::listed(Reply::GO_ON, 0),
+            Response::Connect => Reply::listed(Reply::CONNECT, 0),
+            Response::Version => Reply::listed(Reply::VERSION, 0),
+            Response::Read(n) => Reply::listed(Reply::READ, n),
+            Response::Write(tag, value) => Reply::valued(Reply::WRITE, tag, value),
+            Response::ReadBack(n) => Reply::listed(Reply::READ_BACK, n),
+            Response::Describe(n) => Reply::listed(Reply::DESCRIBE, n),
+            Response::Wait(seconds) => Reply::wait(seconds),
+            Response::Values(n) => Reply::listed(Reply::VALUES, n),
+            Response::Status(state) => Reply::status(state),
+            Response::Meta => Reply::listed(Reply::META, 0),
+            Response::Info(n) => Reply::listed(Reply::INFO, n),
+            Response::Outcome(tag, outcome) => outcome.reply(tag),
+            Response::Failed(n) => Reply::listed(Reply::FAILED, n),
+            Response::Stopped(n) => Reply::listed(Reply::STOPPED, n),
         }
     }
 }

@@ -1,13 +1,12 @@
 -- The results of a reply, and check 42.
-use Rattle.std.specs.Prelude.{Bool, true, false, ◌&&◌, ◌||◌, cond, List, ℕ, zero, suc, ◌+◌, ◌*◌, ◌/◌, min, ltb, length, get_or, Option, Some, None}
+use Rattle.std.specs.Prelude.{Bool, true, ◌&&◌, cond, List, ℕ, zero, suc, ◌+◌, ◌*◌, ◌/◌, min, ltb, length, get_or, Ok, Err}
 use Rattle.std.specs.Float.Ieee.Scale.{finite}
 use Rattle.values.specs.declared.value.Value.{Value}
 use Rattle.values.specs.declared.value.Value.TheVariants.{Null, Bool as Flag, Int, Float as Real}
-use Rattle.values.specs.declared.entry.TagResult.{TagResult}
+use Rattle.values.specs.Entry.{TagResult, result_of}
 use Rattle.words.specs.Value.{value_from}
 use Rattle.words.specs.Error.{error_from}
 use Rattle.memory.specs.Cells.{cells_in}
-use Rattle.values.specs.declared.error.TagError.{TagError}
 
 -- how many results memory holds; each is four cells
 abbrev pub result_count : List ℕ → ℕ
@@ -17,11 +16,10 @@ result_count bs = length bs / 32
 unfoldable pub result_in : List ℕ → ℕ → TagResult
 result_in bs i =
     cond (ltb i (result_count bs))
-    (record {
-      value = value_from (get_or (cells_in bs) (4 * i) 0) (get_or (cells_in bs) (4 * i + 1) 0);
-      error = error_from (get_or (cells_in bs) (4 * i + 2) 0) (get_or (cells_in bs) (4 * i + 3) 0);
-    })
-    (record { value = Null; error = None })
+    (result_of
+    (value_from (get_or (cells_in bs) (4 * i) 0) (get_or (cells_in bs) (4 * i + 1) 0))
+    (error_from (get_or (cells_in bs) (4 * i + 2) 0) (get_or (cells_in bs) (4 * i + 3) 0)))
+    (Ok Null)
 
 -- Check 42: a float is finite.
 abbrev pub value_ok : Value → Bool
@@ -30,13 +28,10 @@ value_ok (Flag b) = true
 value_ok (Int n) = true
 value_ok (Real x) = finite x
 
-abbrev pub is_error : Option TagError → Bool
-is_error None = false
-is_error (Some e) = true
-
--- Check 42: where there is an error the value does not count.
+-- Check 42: of a reading that failed there is no value to check.
 abbrev pub result_ok : TagResult → Bool
-result_ok r = is_error r.error || value_ok r.value
+result_ok (Ok v) = value_ok v
+result_ok (Err e) = true
 
 -- Check 42: each of the first n results.
 unfoldable pub first_ok : ℕ → List ℕ → Bool

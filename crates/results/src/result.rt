@@ -12,13 +12,10 @@ pub fn result_at(s: &[u8], i: usize) -> TagResult
     ensures { result ≡ result_in s.now i }
 {
     if s.len() / 32 <= i {
-        return TagResult {
-            value: Value::Null,
-            error: None,
-        };
+        return Ok(Value::Null);
     }
-    TagResult {
-        value: value_from(cell(s, 4 * i), cell(s, 4 * i + 1)),
-        error: error_from(cell(s, 4 * i + 2), cell(s, 4 * i + 3)),
+    match error_from(cell(s, 4 * i + 2), cell(s, 4 * i + 3)) {
+        None => Ok(value_from(cell(s, 4 * i), cell(s, 4 * i + 1))),
+        Some(e) => Err(e),
     }
 }

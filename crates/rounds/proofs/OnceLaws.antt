@@ -260,6 +260,7 @@ module _ (less : ℕ → ℕ → Bool) (o : Options) (P : Polling) (clock : Floa
     unfolding round
     round_once = list_once less left listed_left clock half o.cycle R.boundary S P.cycle.index
 
+    -- The same of the tags that the round wants, before missing ones are dropped.
     pub round_wanted_once : (k : ℕ) → count k R.wanted ≤ 1
     unfolding round
     round_wanted_once = wanted_once less left listed_left clock half o.cycle R.boundary S P.cycle.index

@@ -42,7 +42,7 @@ pub fn mark_due(t: &mut [u8], list: &[u8], clock: f64)
     }
 }
 
-// The groups of the tags of `list`.
+// The groups of the tags of `list`. `seen` has a place for every group that a byte can number, and no heap to grow in.
 pub fn record_due(b: &mut [u8], list: &[u8], clock: f64)
     requires { IsBoard b.old }
     ensures { Holds b.new (with_groups (board_in b.old) (recorded_due (board_in b.old).table.tags clock none_seen (board_in b.old).groups (list_in list.now))) }

@@ -100,7 +100,7 @@ fn cycle_in(
 }
 
 // A round at the clock time `clock`: the tags to read are those asked for. The lists it works in have room for twice as
-// many tags as a directory can have names.
+// many tags as a directory can have names; they are arrays, since an engine has no heap.
 pub fn cycle_tags(b: &mut [u8], o: Options, c: Cycle, clock: f64) -> CycleTags
     requires { IsBoard b.old }
     ensures { Worked (board_in b.old) (round_of (board_in b.old) o c clock) result b.new }

@@ -2,8 +2,14 @@
 // type of record pass it to these.
 #![tactic(auto)]
 
-ghost use Rattle.std.specs.Prelude.{◌≡◌, ◌≤◌, get_or};
+ghost use Rattle.std.specs.Prelude.{◌≡◌, get_or, length};
 ghost use Rattle.runs.specs.Run.{filled, answer};
+
+use arrayvec::ArrayVec;
+
+// A run with fewer places than there may be records.
+#[derive(Clone, Copy, Debug)]
+pub struct TooShort;
 
 // One of a run; past its end `none`.
 pub fn at<S: Copy>(run: &[S], i: usize, none: S) -> S
@@ -12,15 +18,14 @@ pub fn at<S: Copy>(run: &[S], i: usize, none: S) -> S
     run.get(i).copied().unwrap_or(none)
 }
 
-// The first n of `from` over the first places of `out`; the places past them keep their contents. A run with fewer than K
-// places is refused, and left as it was: the answer is then `refusal`, the number of a check, as of the calls that C makes.
-pub fn fill<S: Copy, const K: usize>(out: &mut [S], from: [S; K], n: usize, refusal: u32) -> u32
-    requires { n ≤ K }
-    ensures { (result ≡ answer K refusal out.old) × (out.new ≡ filled K n from out.old) }
+// The records over the first places of `out`; the places past them keep their contents. A run with fewer than K places is
+// refused, and left as it was.
+pub fn fill<S: Copy, const K: usize>(out: &mut [S], from: &ArrayVec<S, K>) -> Result<(), TooShort>
+    ensures { (result ≡ answer K out.old) × (out.new ≡ filled K (length from.now.items) from.now.items out.old) }
 {
     if out.len() < K {
-        return refusal;
+        return Err(TooShort);
     }
-    out[..n].copy_from_slice(&from[..n]);
-    0
+    out[..from.len()].copy_from_slice(from.as_slice());
+    Ok(())
 }

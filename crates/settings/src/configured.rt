@@ -4,9 +4,10 @@ ghost use Rattle.settings.specs.Configured.{configured_from, no_group, given_gro
 
 use super::each::check_each;
 use super::range::is_group;
-use memory::cells::{cell, put_cell};
+use memory::cells::{cell, places, put_cell};
 use table::tag::GroupRate;
 
+// No `From`, as a group comes as two cells.
 #[tactic(auto, unfolding(crate::specs::Configured::configured_from))]
 fn configured_from(number: u64, rate: u64) -> GroupRate
     ensures { result ≡ configured_from (number ∷ rate ∷ []) }
@@ -29,23 +30,16 @@ pub fn check_configured(s: &[u8]) -> bool
     check_each(n, |i| is_group(cell(s, 2 * i), cell(s, 2 * i + 1)))
 }
 
-// How many groups there is room for.
-fn room_of(c: &[u8]) -> usize
-    ensures { result ≡ group_room c.now }
-{
-    let cells = c.len() / 8;
-    if cells == 0 { 0 } else { (cells - 1) / 2 }
-}
-
 // The stored count; where that is above the places there are, all of them.
 pub fn configured_count(c: &[u8]) -> usize
     ensures { result ≡ length (configured_in c.now) }
 {
-    let room = room_of(c);
+    let room = places(c, 2);
     let n = cell(c, 0);
     if n < room as u64 { n as usize } else { room }
 }
 
+// Not `setting_at` for another record: here a stored count says how many there are, and a setting lies as the host lent it.
 pub fn configured_at(c: &[u8], i: usize) -> GroupRate
     ensures { result ≡ get_or (configured_in c.now) i no_group }
 {
@@ -68,7 +62,7 @@ pub fn keep_configured(c: &mut [u8], s: &[u8])
     ensures { configured_in c.new ≡ take (group_room c.old) (given_groups s.now) }
 {
     let given = s.len() / 16;
-    let room = room_of(c);
+    let room = places(c, 2);
     let n = if given < room { given } else { room };
     for i in 0..n {
         put_place(c, i, cell(s, 2 * i), cell(s, 2 * i + 1));

@@ -6,7 +6,7 @@ ghost use Rattle.shown.specs.Looks.{description_cell, tag_of, no_look, tag_found
 
 use board::tag::{cached_of, description_of, tier_of};
 use table::tag::Description;
-use words::entry::held_words;
+use words::entry::EntryWords;
 
 // A tag's tier, 0 for none; its cached entry, held being 0 where there is none; and its description, 0 where it is not
 // known, 1 where it has none, and otherwise the number and 2. has_g and g are cells of the entry that nothing uses yet.
@@ -40,7 +40,7 @@ fn tag_of(board: &[u8], k: usize) -> TagLook
     requires { IsBoard board.now }
     ensures { result ≡ tag_of (tag_at (board_in board.now).table k) }
 {
-    let w = held_words(cached_of(board, k));
+    let w = EntryWords::from(cached_of(board, k));
     TagLook {
         code: 0,
         tier: tier_of(board, k) as u64,

@@ -120,7 +120,8 @@ fn mark_within(b: &mut [u8], out: &mut [u8], changes: &mut [u8]) -> usize
     tell_changes(b, out, changes)
 }
 
-// Every cached tag not stale yet becomes stale; the changes go into `out`, in tag order.
+// Every cached tag not stale yet becomes stale; the changes go into `out`, in tag order. They are listed in an array, since an
+// engine has no heap.
 pub fn mark_stale(b: &mut [u8], out: &mut [u8]) -> usize
     requires { IsBoard b.old }
     ensures { Changing (staled_in (board_in b.old)) result b.new out.old out.new }

@@ -24,7 +24,8 @@ pub fn named_count(configured: &[u8], recorded: &[u8]) -> usize
     configured_count(configured) + count(recorded)
 }
 
-// Whether place i is the first one with its number.
+// Whether place i is the first one with its number. A loop of its own, as `tags::contains` and `panel::check` have too: what they
+// search is read in three ways, and one function with a closure that reads has a longer clause than each of these.
 pub fn is_first(configured: &[u8], recorded: &[u8], i: usize) -> bool
     ensures { result ≡ is_first (named (configured_in configured.now) (list_in recorded.now)) i }
 {

@@ -9,11 +9,17 @@ use Rattle.lent.specs.Lent.{cell_bytes, wrote_all, records}
 use Rattle.board.specs.Board.{Board, board_in}
 use Rattle.readings.specs.Changes.{changes_in}
 use Rattle.heads.specs.declared.progress.Phase.{Phase}
+use Rattle.heads.specs.declared.progress.Phase.TheVariants.{LostTold}
+use Rattle.step_checks.specs.declared.answer.Kind.{Kind}
+use Rattle.step_checks.specs.declared.answer.Kind.TheVariants.{Written, Refused}
+use Rattle.step_answers.specs.Answers.{written_as}
 use Rattle.engine.specs.declared.Engine.{Engine}
-use Rattle.replies.specs.declared.reply.Reply.{Reply}
-use Rattle.replies.specs.declared.reply.Said.{Said}
+use Rattle.replies.specs.Reply.{reply_of}
+use Rattle.replies.specs.declared.response.Response.{Response}
+use Rattle.replies.specs.declared.response.Said.{Said}
 use Rattle.replies.specs.Losing.{is_empty}
-use Rattle.replies.specs.Worker.{Told, tell, asks, worker, phased, said_in, Done}
+use Rattle.replies.specs.Reply as reply
+use Rattle.replies.specs.Worker.{Worker, Told, tell, asks, worker, phased, said_in, Done}
 use Rattle.replies.proofs.DoneLaws.{wrote_nothing}
 
 -- no element and the length 0 are the same
@@ -22,21 +28,21 @@ empty_is [] = refl
 empty_is (x ∷ l) = eqb-suc-zero (length l)
 
 -- something that carries no list
-pub asked_done : (e : Engine) (B : Board) (p : Phase) (r : Reply) (s : Said) (board' out : List ℕ) → s ≡ said_in e p r → board_in board' ≡ B → Done (asks (worker e B) p r) s board' out out
+pub asked_done : (e : Engine) (B : Board) (p : Phase) (r : Response) (s : Said) (board' out : List ℕ) → s ≡ said_in e p r → board_in board' ≡ B → Done (asks (worker e B) p (reply_of r)) s board' out out
 asked_done e B p r s board' out said kept = record {
   head_is = ap (λ (x : Said). x.head) said;
   board_is = kept;
-  reply_is = ap (λ (x : Said). x.reply) said;
+  reply_is = ap (λ (x : Said). reply_of x.response) said;
   out_is = sym (wrote_nothing out);
   silent = λ h. refl;
 }
 
 -- something that carries a list
-pub told_done : (e : Engine) (B : Board) (p : Phase) (r : Reply) (bytes : List ℕ) (s : Said) (board' out out' : List ℕ) → s ≡ said_in e p r → board_in board' ≡ B → out' ≡ wrote_all out bytes → eqb r.kind 0 ≡ false → Done (tell (phased (worker e B) p) r bytes) s board' out out'
+pub told_done : (e : Engine) (B : Board) (p : Phase) (r : Response) (bytes : List ℕ) (s : Said) (board' out out' : List ℕ) → s ≡ said_in e p r → board_in board' ≡ B → out' ≡ wrote_all out bytes → eqb (reply_of r).kind 0 ≡ false → Done (tell (phased (worker e B) p) (reply_of r) bytes) s board' out out'
 told_done e B p r bytes s board' out out' said kept wrote told = record {
   head_is = ap (λ (x : Said). x.head) said;
   board_is = kept;
-  reply_is = ap (λ (x : Said). x.reply) said;
+  reply_is = ap (λ (x : Said). reply_of x.response) said;
   out_is = wrote;
   silent = λ h. absurd (true≢false (sym h ∙ told));
 }
@@ -50,3 +56,10 @@ no_changes B (k ∷ ks) out out' h wrote = absurd (true≢false (sym h))
 -- a call before this one left the lent list as it was
 pub done_from : (T : Told) (s : Said) (board' before out out' : List ℕ) → out ≡ before → Done T s board' out out' → Done T s board' before out'
 done_from T s board' before out out' e h = subst (λ (o : List ℕ). Done T s board' o out') e h
+
+-- a write that was neither written nor refused was lost
+pub written_lost : (W : Worker) (kind : Kind) → (kind ≡ Written → ⊥) → ((error message : ℕ) → kind ≡ Refused error message → ⊥)
+    → written_as W kind ≡ asks W LostTold (reply.was_lost W.head.progress.tag)
+written_lost W Written w r = absurd (w refl)
+written_lost W (Refused error message) w r = absurd (r error message refl)
+written_lost W kind w r = refl

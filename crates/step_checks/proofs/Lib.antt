@@ -1,2 +1,3 @@
--- `Links`: the code, for a link.
+-- `KindLaws`: kinds of answers. `Links`: the code, for a link.
+pub mod KindLaws
 pub mod Links

@@ -1,5 +1,5 @@
 -- Rule 9: what a step waits for, and its checks.
-use Rattle.std.specs.Prelude.{Bool, false, not, ◌&&◌, ◌||◌, cond, List, ℕ, ◌/◌, eqb, ltb, length}
+use Rattle.std.specs.Prelude.{Bool, true, false, not, cond, List, ℕ, ◌/◌, ltb, length}
 use Rattle.std.specs.Float.Ieee.{lt}
 use Rattle.names.specs.Directory.{max_names}
 use Rattle.ieee.specs.Times.{clock_ok}
@@ -8,80 +8,75 @@ use Rattle.settings.specs.Settings.{settings_ok}
 use Rattle.lent.specs.Changes.{change_size}
 use Rattle.heads.specs.declared.progress.Phase.{Phase}
 use Rattle.heads.specs.declared.progress.Phase.TheVariants.{Begin, Connect, OpenVersion, Version, Read, Describe, Write, ReadBack, Wait, Backoff, OpenFailedTold, OpenMetaTold, ConnectedTold, MetaTold, ValuesTold, InfoTold, RefusedTold, LostTold, OutcomeTold, BackTold, FailedTold, StaleTold, DisconnectedTold, ConnectingTold, Stopped}
-use Rattle.replies.specs.Worker.{Worker, At}
-use Rattle.step_checks.specs.declared.awaiting.Answer.{Answer as Numbers}
+use Rattle.replies.specs.declared.at.At.{At}
+use Rattle.replies.specs.Worker.{Worker}
+use Rattle.step_checks.specs.declared.answer.Answer.{Answer as Given}
+use Rattle.step_checks.specs.declared.answer.Kind.{Kind}
+use Rattle.step_checks.specs.declared.answer.Kind.TheVariants as kind
+use Rattle.step_checks.specs.declared.awaiting.Wait.{Wait as Awaited}
+use Rattle.step_checks.specs.declared.awaiting.Wait.TheVariants as wait
+use Rattle.step_checks.specs.Kinds.{is_version, is_results}
 
--- An answer: its kind, a number (of a version, or of an error), the number of a message, and the bytes of a list of records.
--- Kinds: 0 begin; 1 opened, 2 not opened; 3 version null, 4 version; 5 results, 6 lost; 7 written, 8 refused; 9 descriptions, 10 none read; 11 waited; 12 taken.
+-- An answer: its kind, and the bytes of a list of records.
 pub record Answer : Type 0 where
-  pub kind : ℕ
-  pub number : ℕ
-  pub message : ℕ
+  pub kind : Kind
   pub list : List ℕ
 
--- the numbers of an answer, with its list
-abbrev pub answer : Numbers → List ℕ → Answer
-answer n list = record { kind = n.kind; number = n.number; message = n.message; list = list }
+-- an answer, by the bytes of its list
+abbrev pub answer : Given → Answer
+answer a = record { kind = a.kind; list = a.list.now }
 
 -- ---- check 41: what each phase waits for
 
--- 0 begin, 1 connect, 2 version, 3 results, 4 write, 5 descriptions, 6 wait, 7 taken, 8 nothing
-unfoldable pub awaited : Phase → ℕ
-awaited Begin = 0
-awaited Connect = 1
-awaited OpenVersion = 2
-awaited Version = 2
-awaited Read = 3
-awaited Describe = 5
-awaited Write = 4
-awaited ReadBack = 3
-awaited Wait = 6
-awaited Backoff = 6
-awaited OpenFailedTold = 7
-awaited OpenMetaTold = 7
-awaited ConnectedTold = 7
-awaited MetaTold = 7
-awaited ValuesTold = 7
-awaited InfoTold = 7
-awaited RefusedTold = 7
-awaited LostTold = 7
-awaited OutcomeTold = 7
-awaited BackTold = 7
-awaited FailedTold = 7
-awaited StaleTold = 7
-awaited DisconnectedTold = 7
-awaited ConnectingTold = 7
-awaited Stopped = 8
+unfoldable pub awaited : Phase → Awaited
+awaited Begin = wait.Begin
+awaited Connect = wait.Connect
+awaited OpenVersion = wait.Version
+awaited Version = wait.Version
+awaited Read = wait.Results
+awaited Describe = wait.Descriptions
+awaited Write = wait.Write
+awaited ReadBack = wait.Results
+awaited Wait = wait.Time
+awaited Backoff = wait.Time
+awaited OpenFailedTold = wait.Taken
+awaited OpenMetaTold = wait.Taken
+awaited ConnectedTold = wait.Taken
+awaited MetaTold = wait.Taken
+awaited ValuesTold = wait.Taken
+awaited InfoTold = wait.Taken
+awaited RefusedTold = wait.Taken
+awaited LostTold = wait.Taken
+awaited OutcomeTold = wait.Taken
+awaited BackTold = wait.Taken
+awaited FailedTold = wait.Taken
+awaited StaleTold = wait.Taken
+awaited DisconnectedTold = wait.Taken
+awaited ConnectingTold = wait.Taken
+awaited Stopped = wait.Nothing
 
--- one of two kinds
-abbrev pub either : ℕ → ℕ → ℕ → Bool
-either kind a b = eqb kind a || eqb kind b
-
--- an error's number and 1, as in a record: 1 NotFound, 2 Access, the code and 3 for another
-abbrev pub is_error : ℕ → Bool
-is_error n = ltb 0 n && ltb n 0x1_0003
-
--- a write is answered by written, lost, or a refusal with its error
-abbrev pub answers_write : Answer → Bool
-answers_write a = either a.kind 7 6 || (eqb a.kind 8 && is_error a.number)
-
--- the answers to each wait
-unfoldable pub answers : ℕ → Answer → Bool
-answers w a =
-    cond (eqb w 0) (eqb a.kind 0)
-    (cond (eqb w 1) (either a.kind 1 2)
-    (cond (eqb w 2) (either a.kind 3 4)
-    (cond (eqb w 3) (either a.kind 5 6)
-    (cond (eqb w 4) (answers_write a)
-    (cond (eqb w 5) (either a.kind 9 10)
-    (cond (eqb w 6) (eqb a.kind 11)
-    (cond (eqb w 7) (eqb a.kind 12) false)))))))
+-- the answers to each wait; a write is answered by written, lost, or a refusal with its error
+unfoldable pub answers : Awaited → Kind → Bool
+answers wait.Begin kind.Begin = true
+answers wait.Connect kind.Opened = true
+answers wait.Connect kind.NotOpened = true
+answers wait.Version (kind.Version v) = true
+answers wait.Results kind.Results = true
+answers wait.Results kind.Lost = true
+answers wait.Write kind.Written = true
+answers wait.Write (kind.Refused error message) = true
+answers wait.Write kind.Lost = true
+answers wait.Descriptions kind.Descriptions = true
+answers wait.Descriptions kind.NotDescribed = true
+answers wait.Time kind.Waited = true
+answers wait.Taken kind.Taken = true
+answers w k = false
 
 -- Check 14 of a version's settings, and check 42 of the results that are covered; else 0
 unfoldable pub contents : Worker → Answer → ℕ
 contents W a =
-    cond (either a.kind 3 4) (cond (settings_ok W.head.count a.list) 0 14)
-    (cond (eqb a.kind 5) (cond (results_ok (length W.board.asked) a.list) 0 42) 0)
+    cond (is_version a.kind) (cond (settings_ok W.head.count a.list) 0 14)
+    (cond (is_results a.kind) (cond (results_ok (length W.board.asked) a.list) 0 42) 0)
 
 -- Checks of a step, in document 01's order: 43, 21, 22, 41, then 14 or 42; 0 where it is accepted. The lent list has room for a change of every name that a directory can have.
 unfoldable pub step_check : Worker → At → Answer → ℕ → ℕ
@@ -89,5 +84,5 @@ step_check W at a out =
     cond (ltb (out / change_size) max_names) 43
     (cond (not (clock_ok at.clock)) 21
     (cond (lt at.clock W.head.clock) 22
-    (cond (not (answers (awaited W.head.progress.phase) a)) 41
+    (cond (not (answers (awaited W.head.progress.phase) a.kind)) 41
     (contents W a))))

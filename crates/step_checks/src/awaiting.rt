@@ -1,148 +1,113 @@
 // The checks of a step.
-ghost use Rattle.std.specs.Prelude.{List, ◌≡◌, ℕ};
+ghost use Rattle.std.specs.Prelude.{◌≡◌};
+ghost use Rattle.refusals.specs.Refusals.{code};
 ghost use Rattle.board.specs.Board.{board_in};
 ghost use Rattle.board.specs.Layout.{IsBoard};
-ghost use Rattle.replies.specs.Worker.{at, worker};
-ghost use Rattle.step_checks.specs.Awaited.{answer, awaited, is_error, either, answers_write, answers, contents, step_check};
+ghost use Rattle.replies.specs.Worker.{worker};
+ghost use Rattle.step_checks.specs.Awaited.{answer, awaited, answers, contents, step_check};
 
+use super::answer::{Answer, Kind};
 use board::tag_lists::asked_count;
 use engine::Engine;
 use heads::progress::Phase;
 use lent::changes::CHANGE;
 use names::directory::MAX_NAMES;
+use refusals::Refusal;
+use replies::at::At;
 
-// An answer of the host, but for its list: the kind, the number of a version or of an error, and the number of a message.
+// What a phase waits for.
 #[derive(Clone, Copy)]
-pub struct Answer {
-    pub kind: u64,
-    pub number: u64,
-    pub message: u64,
+pub enum Wait {
+    Begin,
+    Connect,
+    Version,
+    Results,
+    Write,
+    Descriptions,
+    Time,
+    Taken,
+    Nothing,
 }
 
-impl Answer {
-    pub const BEGIN: u64 = 0;
-
-    pub const OPENED: u64 = 1;
-
-    pub const NOT_OPENED: u64 = 2;
-
-    pub const NO_VERSION: u64 = 3;
-
-    pub const VERSION: u64 = 4;
-
-    pub const RESULTS: u64 = 5;
-
-    pub const LOST: u64 = 6;
-
-    pub const WRITTEN: u64 = 7;
-
-    pub const REFUSED: u64 = 8;
-
-    pub const DESCRIPTIONS: u64 = 9;
-
-    pub const NOT_DESCRIBED: u64 = 10;
-
-    pub const WAITED: u64 = 11;
-
-    pub const TAKEN: u64 = 12;
-}
-
-// Which answers a phase waits for, by a number for each kind of wait.
-fn awaited(p: Phase) -> u64
+#[tactic(auto, unfolding(crate::specs::Awaited::awaited))]
+fn awaited(p: Phase) -> Wait
     ensures { result ≡ awaited p }
 {
     match p {
-        Phase::Begin => 0,
-        Phase::Connect => 1,
-        Phase::OpenVersion | Phase::Version => 2,
-        Phase::Read | Phase::ReadBack => 3,
-        Phase::Write => 4,
-        Phase::Describe => 5,
-        Phase::Wait | Phase::Backoff => 6,
-        Phase::Stopped => 8,
-        _ => 7,
+        Phase::Begin => Wait::Begin,
+        Phase::Connect => Wait::Connect,
+        Phase::OpenVersion | Phase::Version => Wait::Version,
+        Phase::Read | Phase::ReadBack => Wait::Results,
+        Phase::Write => Wait::Write,
+        Phase::Describe => Wait::Descriptions,
+        Phase::Wait | Phase::Backoff => Wait::Time,
+        Phase::Stopped => Wait::Nothing,
+        _ => Wait::Taken,
     }
 }
 
-fn is_error(n: u64) -> bool
-    ensures { result ≡ is_error n }
+#[tactic(auto, unfolding(crate::specs::Awaited::answers))]
+fn answers(wait: Wait, kind: Kind) -> bool
+    ensures { result ≡ answers wait kind }
 {
-    n != 0 && n < 0x1_0003
-}
-
-fn is_either(kind: u64, a: u64, b: u64) -> bool
-    ensures { result ≡ either kind a b }
-{
-    kind == a || kind == b
-}
-
-fn answers_write(a: Answer) -> bool
-    ensures { (list : List ℕ) → result ≡ answers_write (answer a list) }
-{
-    is_either(a.kind, Answer::WRITTEN, Answer::LOST)
-        || (a.kind == Answer::REFUSED && is_error(a.number))
-}
-
-fn answers(w: u64, a: Answer) -> bool
-    ensures { (list : List ℕ) → result ≡ answers w (answer a list) }
-{
-    match w {
-        0 => a.kind == Answer::BEGIN,
-        1 => is_either(a.kind, Answer::OPENED, Answer::NOT_OPENED),
-        2 => is_either(a.kind, Answer::NO_VERSION, Answer::VERSION),
-        3 => is_either(a.kind, Answer::RESULTS, Answer::LOST),
-        4 => answers_write(a),
-        5 => is_either(a.kind, Answer::DESCRIPTIONS, Answer::NOT_DESCRIBED),
-        6 => a.kind == Answer::WAITED,
-        7 => a.kind == Answer::TAKEN,
-        _ => false,
+    match wait {
+        Wait::Begin => matches!(kind, Kind::Begin),
+        Wait::Connect => matches!(kind, Kind::Opened | Kind::NotOpened),
+        Wait::Version => matches!(kind, Kind::Version(_)),
+        Wait::Results => matches!(kind, Kind::Results | Kind::Lost),
+        Wait::Write => matches!(kind, Kind::Written | Kind::Refused(_, _) | Kind::Lost),
+        Wait::Descriptions => matches!(kind, Kind::Descriptions | Kind::NotDescribed),
+        Wait::Time => matches!(kind, Kind::Waited),
+        Wait::Taken => matches!(kind, Kind::Taken),
+        Wait::Nothing => false,
     }
 }
 
 // Check 14 of a version's settings, and check 42 of the results that are covered.
-fn contents(board: &[u8], e: Engine, a: Answer, list: &[u8]) -> u64
+#[tactic(auto, unfolding(crate::specs::Awaited::contents))]
+fn contents<'a>(board: &[u8], e: Engine, a: Answer<'a>) -> Result<(), Refusal>
     requires { IsBoard board.now }
-    ensures { result ≡ contents (worker e (board_in board.now)) (answer a list.now) }
+    ensures { code result ≡ contents (worker e (board_in board.now)) (answer a.entry) }
 {
-    if is_either(a.kind, Answer::NO_VERSION, Answer::VERSION) {
-        if settings::setting::check_settings(list, e.count as usize) {
-            return 0;
+    match a.kind {
+        Kind::Version(_) => {
+            if !settings::setting::check_settings(a.list, e.count as usize) {
+                return Err(Refusal::Settings);
+            }
         }
-        return 14;
-    }
-    if a.kind == Answer::RESULTS {
-        if results::check::check_results(list, asked_count(board)) {
-            return 0;
+        Kind::Results => {
+            if !results::check::check_results(a.list, asked_count(board)) {
+                return Err(Refusal::NotFinite);
+            }
         }
-        return 42;
+        _ => {}
     }
-    0
+    Ok(())
 }
 
-// 0 where the step is accepted, and otherwise the number of the check that refuses it.
-pub fn step_check(
+// The first check that refuses a step.
+#[tactic(auto, unfolding(crate::specs::Awaited::step_check))]
+pub fn step_check<'a>(
     board: &[u8],
     e: Engine,
-    a: Answer,
-    list: &[u8],
-    clock: f64,
-    wall: i64,
+    a: Answer<'a>,
+    at: At,
     room: usize,
-) -> u64
+) -> Result<(), Refusal>
     requires { IsBoard board.now }
-    ensures { result ≡ step_check (worker e (board_in board.now)) (at clock wall) (answer a list.now) room }
+    ensures { code result ≡ step_check (worker e (board_in board.now)) at (answer a.entry) room }
 {
     if room / CHANGE < MAX_NAMES {
-        return 43;
+        return Err(Refusal::ListRoom);
     }
-    if !ieee::times::is_clock(clock) {
-        return 21;
+    if !ieee::times::is_clock(at.clock) {
+        return Err(Refusal::Clock);
     }
-    if clock < e.clock {
-        return 22;
+    if at.clock < e.clock {
+        return Err(Refusal::ClockBehind);
     }
-    if !answers(awaited(e.progress.phase), a) {
-        return 41;
+    if !answers(awaited(e.progress.phase), a.kind) {
+        return Err(Refusal::NotAwaited);
     }
-    contents(board, e, a, list)
+    contents(board, e, a)
 }

@@ -3,6 +3,7 @@ ghost use Rattle.board.specs.Layout.{IsBoard};
 
 use super::setup::Names;
 use super::state::{Calls, Stage, Stop};
+use arrayvec::ArrayVec;
 use board::parts::asked_of;
 use board::starts::{size_for, tags_in};
 use listing::line::Line;
@@ -31,9 +32,9 @@ fn take_round(rt: &impl Print, calls: Calls, ms: u64, b: &mut [u8]) -> Result<Ca
 {
     let clock = calls.time(ms)?;
     let round = cycle_tags(b, calls.options, calls.cycle, clock);
-    let mut line = [0u8; LINE];
-    if let Some(n) = put_line(&mut line, ms, round.boundary, asked_of(b)) {
-        rt.write_all(&line[..n])?;
+    let mut line = ArrayVec::<u8, LINE>::new();
+    if put_line(&mut line, ms, round.boundary, asked_of(b)).is_ok() {
+        rt.write_all(line.as_slice())?;
     }
     Ok(Calls {
         cycle: round.cycle,

@@ -1,14 +1,14 @@
 // Options and names.
-ghost use Rattle.std.specs.Prelude.{◌≤◌};
+ghost use Rattle.std.specs.Prelude.{◌≡◌, ◌≤◌, [], ◌∷◌, ◌++◌, length, MatchResult};
 ghost use Rattle.board.specs.Layout.{IsBoard};
 
 use super::state::{Calls, Stage, Stop};
 use arrayvec::ArrayVec;
 use board::starts::tags_in;
 use fresh::create;
-use heads::options::Options;
+use heads::options::{Options, check_options};
 use ieee::times::seconds;
-use names::directory::{MAX_NAME_LENGTH, MAX_NAMES};
+use names::directory::{Directory, MAX_NAME_LENGTH, MAX_NAMES};
 
 // Room for the names of the largest directory.
 const NAMES: usize = MAX_NAMES * MAX_NAME_LENGTH;
@@ -20,7 +20,7 @@ pub fn options(cycle: u64, period: u64, grace: u64) -> Result<Stage, Stop> {
         period: seconds(period),
         grace: seconds(grace),
     };
-    if heads::options::check_options(o) != 0 {
+    if check_options(o).is_err() {
         return Err(Stop::Refused);
     }
     Ok(Stage::Names(o))
@@ -34,7 +34,9 @@ pub struct Names {
 }
 
 impl Names {
-    pub fn new() -> Names {
+    pub fn new() -> Names
+        ensures { (result.bytes.items ≡ []) × (result.ends.items ≡ []) }
+    {
         Names {
             bytes: ArrayVec::new(),
             ends: ArrayVec::new(),
@@ -42,13 +44,15 @@ impl Names {
     }
 
     pub fn count(&self) -> usize
-        ensures { result ≤ MAX_NAMES }
+        ensures { (result ≤ MAX_NAMES) × (result ≡ length self.now.ends.items) }
     {
         self.ends.len()
     }
 
     // `n`: one name more. Which names there may be is checked when all have come.
-    pub fn push(&mut self, name: &[u8]) -> Result<(), Stop> {
+    pub fn push(&mut self, name: &[u8]) -> Result<(), Stop>
+        ensures { MatchResult result (λ _. (self.new.bytes.items ≡ self.old.bytes.items ++ name.now) × (self.new.ends.items ≡ self.old.ends.items ++ (length self.new.bytes.items ∷ []))) (λ _. self.new ≡ self.old) }
+    {
         if MAX_NAME_LENGTH < name.len() || self.ends.is_full() {
             return Err(Stop::Refused);
         }
@@ -64,12 +68,14 @@ impl Names {
     pub fn begin(&self, options: Options, b: &mut [u8]) -> Result<Calls, Stop>
         requires { IsBoard b.old }
     {
-        let bytes = self.bytes.as_slice();
-        let ends = self.ends.as_slice();
-        if tags_in(b) != ends.len() || directory::check_in(bytes, ends) != 0 {
+        let directory = Directory {
+            names: self.bytes.as_slice(),
+            ends: self.ends.as_slice(),
+        };
+        if tags_in(b) != directory.ends.len() || directory.check().is_err() {
             return Err(Stop::Refused);
         }
-        create(b, bytes, ends, b"", b"");
+        create(b, directory, b"", b"");
         Ok(Calls::new(options))
     }
 }

@@ -1,4 +1,7 @@
 // How far a listing has come, and why it stops.
+ghost use Rattle.std.specs.Prelude.{◌≡◌, Some, None, MatchResult};
+ghost use Rattle.stream.specs.Calls.{new, time};
+
 use heads::cycle::Cycle;
 use heads::options::Options;
 use ieee::times::{is_clock, seconds};
@@ -22,7 +25,9 @@ pub struct Calls {
 
 impl Calls {
     // Before the first.
-    pub fn new(options: Options) -> Calls {
+    pub fn new(options: Options) -> Calls
+        ensures { result ≡ new options }
+    {
         Calls {
             options,
             cycle: Cycle {
@@ -34,7 +39,9 @@ impl Calls {
     }
 
     // The time of a call, given in whole milliseconds. It does not go back.
-    pub fn time(self, ms: u64) -> Result<f64, Stop> {
+    pub fn time(self, ms: u64) -> Result<f64, Stop>
+        ensures { MatchResult result (λ clock. time self ms ≡ Some clock) (λ _. time self ms ≡ None) }
+    {
         let clock = seconds(ms);
         if !is_clock(clock) || clock < self.clock {
             return Err(Stop::Refused);

@@ -5,10 +5,10 @@ use prog.Linked.{Tree, World, Holds, in_world}
 use prog.LinkedThreads.{HasT}
 use prog.Wired.{Code}
 use Rattle.table.proofs.TheLink as link
+use Rattle.table.proofs.TheLinks.table-codec-GraceWordsFromOptionGrace-from
 use Rattle.table.proofs.TheLinks.table-codec-description_from
 use Rattle.table.proofs.TheLinks.table-codec-description_word
 use Rattle.table.proofs.TheLinks.table-codec-grace_from
-use Rattle.table.proofs.TheLinks.table-codec-grace_words
 use Rattle.table.proofs.TheLinks.table-codec-settings_from
 use Rattle.table.proofs.TheLinks.table-codec-timing_from
 use Rattle.table.proofs.TheLinks.table-put_tag
@@ -24,6 +24,9 @@ Below W = link.Below W
 abbrev pub Linked : Code → Type 0
 Linked c = (W : World) → Holds W "table" table → Below W → HasT (in_world W) true c
 
+pub codec_GraceWordsFromOptionGrace_from : Linked table-codec-GraceWordsFromOptionGrace-from.code
+codec_GraceWordsFromOptionGrace_from = link.linked-table::codec::GraceWordsFromOptionGrace::from
+
 pub codec_description_from : Linked table-codec-description_from.code
 codec_description_from = link.linked-table::codec::description_from
 
@@ -32,9 +35,6 @@ codec_description_word = link.linked-table::codec::description_word
 
 pub codec_grace_from : Linked table-codec-grace_from.code
 codec_grace_from = link.linked-table::codec::grace_from
-
-pub codec_grace_words : Linked table-codec-grace_words.code
-codec_grace_words = link.linked-table::codec::grace_words
 
 pub codec_settings_from : Linked table-codec-settings_from.code
 codec_settings_from = link.linked-table::codec::settings_from

@@ -3,9 +3,9 @@ ghost use Rattle.std.specs.Prelude.{◌≡◌, ◌<◌};
 ghost use Rattle.table.specs.Row.{grace_from, timing_from, group_from, settings_from, description_from, entry_words_at, tag_from};
 
 use super::tag::{Description, Grace, GroupRate, Settings, Tag, Timing};
-use words::entry::{EntryWords, held_from, held_words};
+use words::entry::{EntryWords, held_from};
 use words::scalar::{float_of_word, word_of_flag, word_of_float};
-use words::time::{time_from, time_words};
+use words::time::{TimeWords, time_from};
 
 // on: 0 where the tag is in no grace.
 #[derive(Clone, Copy)]
@@ -23,6 +23,7 @@ struct GroupWords {
     rate: u64,
 }
 
+// No `From` for what comes as several cells, or goes into a row: that has no type of its own.
 pub fn grace_from(on: u64, deadline: u64, after: u64) -> Option<Grace>
     ensures { result ≡ grace_from on deadline after }
 {
@@ -35,20 +36,22 @@ pub fn grace_from(on: u64, deadline: u64, after: u64) -> Option<Grace>
     })
 }
 
-pub fn grace_words(g: Option<Grace>) -> GraceWords
-    ensures { grace_from result.on result.deadline result.after ≡ g }
-{
-    match g {
-        None => GraceWords {
-            on: 0,
-            deadline: 0,
-            after: 0,
-        },
-        Some(g) => GraceWords {
-            on: 1,
-            deadline: word_of_float(g.deadline),
-            after: g.after as u64,
-        },
+impl From<Option<Grace>> for GraceWords {
+    ghost from_gives = { λ g words. grace_from words.on words.deadline words.after ≡ g };
+
+    fn from(g: Option<Grace>) -> GraceWords {
+        match g {
+            None => GraceWords {
+                on: 0,
+                deadline: 0,
+                after: 0,
+            },
+            Some(g) => GraceWords {
+                on: 1,
+                deadline: word_of_float(g.deadline),
+                after: g.after as u64,
+            },
+        }
     }
 }
 
@@ -73,20 +76,22 @@ fn group_from(grouped: u64, number: u64, rate: u64) -> Option<GroupRate>
     })
 }
 
-fn group_words(g: Option<GroupRate>) -> GroupWords
-    ensures { group_from result.grouped result.number result.rate ≡ g }
-{
-    match g {
-        None => GroupWords {
-            grouped: 0,
-            number: 0,
-            rate: 0,
-        },
-        Some(g) => GroupWords {
-            grouped: 1,
-            number: g.number as u64,
-            rate: g.rate as u64,
-        },
+impl From<Option<GroupRate>> for GroupWords {
+    ghost from_gives = { λ g words. group_from words.grouped words.number words.rate ≡ g };
+
+    fn from(g: Option<GroupRate>) -> GroupWords {
+        match g {
+            None => GroupWords {
+                grouped: 0,
+                number: 0,
+                rate: 0,
+            },
+            Some(g) => GroupWords {
+                grouped: 1,
+                number: g.number as u64,
+                rate: g.rate as u64,
+            },
+        }
     }
 }
 
@@ -100,6 +105,7 @@ pub fn settings_from(band: u64, grouped: u64, group: u64, rate: u64, described: 
     }
 }
 
+// No `From`: the number is one of many that a `u64` may be.
 pub fn description_from(n: u64) -> Description
     ensures { result ≡ description_from n }
 {
@@ -154,12 +160,12 @@ pub fn tag_from(w: [u64; 32]) -> Tag
 pub fn tag_words(x: Tag) -> [u64; 32]
     ensures { tag_from result ≡ x }
 {
-    let grace = grace_words(x.grace);
-    let last = time_words(x.timing.last);
-    let retry = time_words(x.timing.retry);
-    let group = group_words(x.settings.group);
-    let cached = held_words(x.cached);
-    let published = held_words(x.published);
+    let grace = GraceWords::from(x.grace);
+    let last = TimeWords::from(x.timing.last);
+    let retry = TimeWords::from(x.timing.retry);
+    let group = GroupWords::from(x.settings.group);
+    let cached = EntryWords::from(x.cached);
+    let published = EntryWords::from(x.published);
     [
         x.tier as u64,
         grace.on,

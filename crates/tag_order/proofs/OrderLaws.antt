@@ -14,7 +14,7 @@ use lib.ListN.{length, get_or, set, take, length-set, get_or-eq_default}
 use lib.Seq.{get_or-set_same, get_or-set_other, ext_get_or}
 use Rattle.lists.specs.Keep.{keep, count, Below, up_to}
 use Rattle.lists.proofs.KeepLaws.{count-take, keep_append, below-take}
-use Rattle.values.specs.declared.entry.TagResult.{TagResult}
+use Rattle.values.specs.Entry.{TagResult}
 use Rattle.tags.specs.Lists.{member, fitted}
 use Rattle.table.specs.Tag.{fresh_tag}
 use Rattle.table.specs.Table.{by_rank}

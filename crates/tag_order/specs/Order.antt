@@ -1,6 +1,6 @@
 -- Rule 7: in tag order.
 use Rattle.std.specs.Prelude.{Bool, cond, List, [], ◌∷◌, ◌++◌, ℕ, suc, eqb, ℤ, Float, take}
-use Rattle.values.specs.declared.entry.TagResult.{TagResult}
+use Rattle.values.specs.Entry.{TagResult}
 use Rattle.tags.specs.Lists.{member}
 use Rattle.table.specs.declared.tag.Tag.{Tag}
 use Rattle.table.specs.Table.{by_rank}

@@ -9,7 +9,7 @@ use lib.Ieee.{Float}
 use lib.IntN.{ℤ}
 use lib.ListN.{get_or, set}
 use Rattle.std.specs.Prelude.{Option}
-use Rattle.values.specs.declared.entry.TagResult.{TagResult}
+use Rattle.values.specs.Entry.{TagResult}
 use Rattle.table.specs.Tag.{fresh_tag}
 use Rattle.table.specs.Table.{with_description}
 use Rattle.table.specs.declared.tag.Description.{Description}

@@ -13,7 +13,8 @@ use Rattle.names.specs.Directory.{names_of, max_names}
 use Rattle.slices.specs.Slice.{tier2_tags}
 use Rattle.rounds.specs.Round.{Round}
 use Rattle.heads.specs.declared.options.Options.{Options}
-use Rattle.replies.specs.Worker.{Worker, At, Told, at}
+use Rattle.replies.specs.declared.at.At.{At}
+use Rattle.replies.specs.Worker.{Worker, Told, at}
 use Rattle.cycles.specs.Polling.{round_at}
 use Rattle.step_checks.specs.Awaited.{Answer}
 use Rattle.worker.specs.Steps.{clocked, stepped, step}

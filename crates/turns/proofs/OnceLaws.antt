@@ -23,7 +23,8 @@ use Rattle.heads.specs.declared.progress.Phase.TheVariants.{Read, Version}
 use Rattle.heads.specs.declared.progress.After.{After}
 use Rattle.heads.specs.declared.progress.After.TheVariants.{Tail, End}
 use Rattle.descriptions.specs.Descriptions.{describing}
-use Rattle.replies.specs.Worker.{Worker, At, at, Told, tell, asks, with_board, phased, tallied, goes_on}
+use Rattle.replies.specs.declared.at.At.{At}
+use Rattle.replies.specs.Worker.{Worker, at, Told, tell, asks, with_board, phased, tallied, goes_on}
 use Rattle.replies.specs.Reply as reply
 use Rattle.replies.specs.Losing.{is_empty}
 use Rattle.cycles.specs.Polling.{elapsed, idle, tail, resume, writing_of, writing, checking, reading, round_at, with_worked, polled, poll, lastly, finished}

@@ -26,7 +26,8 @@ use Rattle.turns.proofs.RateLaws.{rated_same}
 use Rattle.turns.proofs.RoundLaws.{listed-round, round_long, round_settings, inside_round, tier2_left, none_ran_out, not_boundary, last_boundary, at_boundary}
 use Rattle.histories.specs.Events.{Event, quiet, retiered, took}
 use Rattle.histories.specs.Respects.{Respects}
-use Rattle.replies.specs.Worker.{Worker, At, Told}
+use Rattle.replies.specs.declared.at.At.{At}
+use Rattle.replies.specs.Worker.{Worker, Told}
 use Rattle.replies.specs.Losing.{is_empty}
 use Rattle.cycles.specs.Polling.{round_at, with_worked}
 use Rattle.step_checks.specs.Awaited.{Answer}

@@ -16,7 +16,8 @@ use Rattle.lent.specs.Changes.{change_size}
 use Rattle.heads.specs.declared.progress.After.TheVariants.{End}
 use Rattle.heads.specs.declared.progress.Phase.TheVariants.{Read}
 use Rattle.replies.specs.Reply as reply
-use Rattle.replies.specs.Worker.{Worker, At, Told, tell, phased, goes_on}
+use Rattle.replies.specs.declared.at.At.{At}
+use Rattle.replies.specs.Worker.{Worker, Told, tell, phased, goes_on}
 use Rattle.replies.specs.Losing.{is_empty}
 use Rattle.cycles.specs.Polling.{waiting, reading, round_at, with_worked, polled, poll, lastly, finished}
 use Rattle.step_checks.specs.Awaited.{Answer, awaited, answers, contents, step_check}
@@ -72,7 +73,7 @@ module _ (at : At) where
       did_if W (goes_on T) _ T (did_after W T.left (lastly (poll T.left at) at) s.keeps (did_lastly T.left (poll T.left at) (did_poll T.left))) (nothing s)
 
   -- an accepted step, from the engine with the clock of the step on
-  pub did_stepped : (W : Worker) (a : Answer) → answers (awaited W.head.progress.phase) a ≡ true → contents W a ≡ 0 → Did (clocked W at) at (stepped W at a)
+  pub did_stepped : (W : Worker) (a : Answer) → answers (awaited W.head.progress.phase) a.kind ≡ true → contents W a ≡ 0 → Did (clocked W at) at (stepped W at a)
   unfolding stepped contents
   did_stepped W a k e = did_finished (clocked W at) _ (still_handled W.head.progress.phase (clocked W at) at a k e)
 
@@ -82,15 +83,15 @@ module _ (at : At) where
 pub record Accepted (W : Worker) (at : At) (a : Answer) : Type 0 where
   pub clock_good : clock_ok at.clock ≡ true
   pub not_behind : lt at.clock W.head.clock ≡ false
-  pub awaits : answers (awaited W.head.progress.phase) a ≡ true
+  pub awaits : answers (awaited W.head.progress.phase) a.kind ≡ true
   pub holds : contents W a ≡ 0
 
 pub accepted-step : (W : Worker) (at : At) (a : Answer) (out : ℕ) → step_check W at a out ≡ 0 → Accepted W at a
 unfolding step_check
 accepted-step W at a out e =
-    go (ltb (out / change_size) max_names) (clock_ok at.clock) refl (lt at.clock W.head.clock) refl (answers (awaited W.head.progress.phase) a) refl e
+    go (ltb (out / change_size) max_names) (clock_ok at.clock) refl (lt at.clock W.head.clock) refl (answers (awaited W.head.progress.phase) a.kind) refl e
   where
-    go : (x : Bool) (c : Bool) → clock_ok at.clock ≡ c → (l : Bool) → lt at.clock W.head.clock ≡ l → (k : Bool) → answers (awaited W.head.progress.phase) a ≡ k
+    go : (x : Bool) (c : Bool) → clock_ok at.clock ≡ c → (l : Bool) → lt at.clock W.head.clock ≡ l → (k : Bool) → answers (awaited W.head.progress.phase) a.kind ≡ k
         → cond x 43 (cond (not c) 21 (cond l 22 (cond (not k) 41 (contents W a)))) ≡ 0 → Accepted W at a
     go true c p l q k r h = absurd (omega arith)
     go false false p l q k r h = absurd (omega arith)

@@ -1,11 +1,10 @@
 -- Every part of a step but the round keeps the tiers, the order and the slice index. `still-X` says it of the definition X of `replies`, `cycles`, `step_answers` or `worker`: what X tells leaves an
 -- engine that keeps all that `Keeps` names, and is no round.
-use mathlib.Core.Path.{◌≡◌, refl}
-use mathlib.Core.Bool.{Bool, true, false, cond}
+use mathlib.Core.Path.{◌≡◌, refl, sym}
+use mathlib.Core.Bool.{Bool, true, false, cond, true≢false}
 use mathlib.Core.List.{List, [], map}
 use Prim.Native.Nat.{ℕ}
 use native.Mathlib.Omega.{arith}
-use lib.Dec.{eqb}
 use lib.Ieee.{Float, binary64, round as rounded, le}
 use lib.IntN.{ℤ}
 use lib.ListN.{length, take}
@@ -31,11 +30,16 @@ use Rattle.board.specs.Board.{with_records}
 use Rattle.readings.specs.Changes.{applied_to}
 use Rattle.replies.specs.Reply as reply
 use Rattle.replies.specs.declared.reply.Reply.{Reply}
-use Rattle.replies.specs.Worker.{Worker, At, tell, asks, with_board, phased, linked, tallied}
+use Rattle.replies.specs.declared.at.At.{At}
+use Rattle.replies.specs.Worker.{Worker, tell, asks, with_board, phased, linked, tallied}
 use Rattle.replies.specs.Losing.{is_empty, failing, ended, backing_off, disconnected, staling, down, top}
 use Rattle.cycles.specs.Polling.{elapsed, remaining, polls, waiting, idle, tail, resume, writing_of, writing, checking, reading}
-use Rattle.step_checks.specs.Awaited.{Answer, awaited, either, answers, contents}
-use Rattle.step_answers.specs.Answers.{number_of, versioned, connected, reconnecting, opened, open_version, round_version, results, descriptions, written, read_back, back_applied, waited, backed_off, connect_answered}
+use Rattle.step_checks.specs.declared.answer.Kind.{Kind}
+use Rattle.step_checks.specs.declared.answer.Kind.TheVariants as kind
+use Rattle.step_checks.specs.declared.awaiting.Wait.TheVariants as wait
+use Rattle.step_checks.specs.Kinds.{is_opened, is_version, is_lost, is_descriptions}
+use Rattle.step_checks.specs.Awaited.{Answer, awaited, answers, contents}
+use Rattle.step_answers.specs.Answers.{number_of, versioned, connected, reconnecting, opened, open_version, round_version, results, descriptions, written_as, written, read_back, back_applied, waited, backed_off, connect_answered}
 use Rattle.worker.specs.Steps.{taken, handled}
 use Rattle.turns.proofs.RateLaws.{rated_version}
 use Rattle.turns.proofs.KeepLaws.{Keeps, keeps_all, keeps_tags, keeps_records, keeps_after, Still, still_tell, still_if, still_after, apply_places, known_places, version_tiers}
@@ -155,11 +159,11 @@ still_opened W = still_if W (is_empty W.board.queue) _ _ (still_ask W OpenVersio
 keeps_versioned : (W : Worker) (connecting : Bool) (a : Answer) → settings_ok W.head.count a.list ≡ true → Keeps W (versioned W connecting a)
 keeps_versioned W connecting a ok =
     let B = W.board in
-    let tags = version_table W.head.link.version (number_of a) connecting a.list B.table.words B.table.tags in
+    let tags = version_table W.head.link.version (number_of a.kind) connecting a.list B.table.words B.table.tags in
     let mid = with_board W (with_records B tags) in
     keeps_after W mid (versioned W connecting a)
-    (keeps_tags W tags (version_tiers W.head.link.version (number_of a) connecting a.list B.table.words B.table.tags)
-    (rated_version W.head.count a.list ok W.head.link.version (number_of a) connecting B.table.words B.table.tags))
+    (keeps_tags W tags (version_tiers W.head.link.version (number_of a.kind) connecting a.list B.table.words B.table.tags)
+    (rated_version W.head.count a.list ok W.head.link.version (number_of a.kind) connecting B.table.words B.table.tags))
     (keeps_all mid (versioned W connecting a) refl refl refl refl refl refl)
 
 -- something told from the engine M
@@ -171,7 +175,7 @@ unfolding open_version
 still_open_version W a ok =
     let next = versioned W true a in
     let k = keeps_versioned W true a ok in
-    still_if W (is_reloaded W.head.link.version (number_of a)) _ _ (still_told W next _ _ _ k (keeps_all next _ refl refl refl refl refl refl))
+    still_if W (is_reloaded W.head.link.version (number_of a.kind)) _ _ (still_told W next _ _ _ k (keeps_all next _ refl refl refl refl refl refl))
     (still_after W next (connected next) k (still_connected next))
 
 pub still_round-version : (W : Worker) (at : At) (a : Answer) → settings_ok W.head.count a.list ≡ true → Still W (round_version W at a)
@@ -179,7 +183,7 @@ unfolding round_version
 still_round-version W at a ok =
     let next = versioned W false a in
     let k = keeps_versioned W false a ok in
-    still_if W (is_reloaded W.head.link.version (number_of a)) _ _ (still_told W next _ _ _ k (keeps_all next _ refl refl refl refl refl refl))
+    still_if W (is_reloaded W.head.link.version (number_of a.kind)) _ _ (still_told W next _ _ _ k (keeps_all next _ refl refl refl refl refl refl))
     (still_after W next (writing next at Tail) k (still_writing at next Tail))
 
 -- readings applied
@@ -194,7 +198,7 @@ still_results W at a =
     let C = applied_to W.board a.list W.head.progress.start at.wall true in
     let next = with_board W C.board in
     let k = keeps_applied W a.list W.head.progress.start at.wall true in
-    still_if W (eqb a.kind 6) _ _ (still_down W)
+    still_if W (is_lost a.kind) _ _ (still_down W)
     (still_if W (is_empty C.changes) _ _ (still_after W next (reading next at) k (still_reading at next))
     (still_told W next _ _ _ k (keeps_all next _ refl refl refl refl refl refl)))
 
@@ -208,21 +212,24 @@ unfolding descriptions
 still_descriptions W a =
     let B = W.board in
     let tags = B.table.tags in
-    let known = cond (eqb a.kind 9) (learnt a.list B.asked tags) (learnt_none B.asked tags) in
+    let known = cond (is_descriptions a.kind) (learnt a.list B.asked tags) (learnt_none B.asked tags) in
     let next = with_board W (with_records B known) in
-    let e : places known ≡ places tags = cond_known (eqb a.kind 9) _ _ (λ (l : List Tag). places l ≡ places tags)
+    let e : places known ≡ places tags = cond_known (is_descriptions a.kind) _ _ (λ (l : List Tag). places l ≡ places tags)
     (known_places (found_in a.list) 0 (take (found_count a.list) B.asked) tags) (known_places (λ (i : ℕ). NoDescription) 0 B.asked tags) in
     still_told W next _ _ _ (keeps_records W known e) (keeps_all next _ refl refl refl refl refl refl)
 
+still_written_as : (W : Worker) (k : Kind) → Still W (written_as W k)
+still_written_as W kind.Written = still_tell W _ _ _ (keeps_all W _ refl refl refl refl refl refl)
+still_written_as W (kind.Refused error message) = still_ask W RefusedTold _
+still_written_as W k = still_ask W LostTold _
+
 pub still_written : (W : Worker) (a : Answer) → Still W (written W a)
 unfolding written
-still_written W a =
-    still_if W (eqb a.kind 7) _ _ (still_tell W _ _ _ (keeps_all W _ refl refl refl refl refl refl))
-    (still_if W (eqb a.kind 8) _ _ (still_ask W RefusedTold _) (still_ask W LostTold _))
+still_written W a = still_written_as W a.kind
 
 pub still_read-back : (W : Worker) (a : Answer) → Still W (read_back W a)
 unfolding read_back
-still_read-back W a = still_if W (eqb a.kind 6) _ _ (still_ask W LostTold _) (still_tell W _ _ _ (keeps_all W _ refl refl refl refl refl refl))
+still_read-back W a = still_if W (is_lost a.kind) _ _ (still_ask W LostTold _) (still_tell W _ _ _ (keeps_all W _ refl refl refl refl refl refl))
 
 pub still_back_applied : (W : Worker) (at : At) → Still W (back_applied W at)
 unfolding back_applied
@@ -243,7 +250,7 @@ still_backed_off W = still_if W W.head.link.stopping _ _ (still_ended W) (still_
 
 -- a connect answered
 still_connect_answered : (W : Worker) (a : Answer) → Still W (connect_answered W a)
-still_connect_answered W a = still_if W (eqb a.kind 1) _ _ (still_opened W) (still_down W)
+still_connect_answered W a = still_if W (is_opened a.kind) _ _ (still_opened W) (still_down W)
 
 pub still_taken : (p : Phase) (W : Worker) (at : At) → Still W (taken p W at)
 unfolding taken
@@ -273,16 +280,22 @@ still_taken DisconnectedTold W at = still_backing_off W
 still_taken ConnectingTold W at = still_top W
 still_taken Stopped W at = still_top W
 
+-- where a version is waited for, the answer is one
+version_met : (k : Kind) → answers wait.Version k ≡ true → is_version k ≡ true
+unfolding answers
+version_met (kind.Version number) e = refl
+version_met k e = absurd (true≢false (sym e))
+
 -- Check 14 of a version's settings, where that is what the phase waits for
-settings_met : (W : Worker) (a : Answer) → either a.kind 3 4 ≡ true → contents W a ≡ 0 → settings_ok W.head.count a.list ≡ true
+pub settings_met : (W : Worker) (a : Answer) → answers wait.Version a.kind ≡ true → contents W a ≡ 0 → settings_ok W.head.count a.list ≡ true
 unfolding contents
-settings_met W a k e = go (settings_ok W.head.count a.list) refl (rw k at e)
+settings_met W a k e = go (settings_ok W.head.count a.list) refl (rw (version_met a.kind k) at e)
   where
     go : (b : Bool) → settings_ok W.head.count a.list ≡ b → ◌≡◌ {A = ℕ} (cond b 0 14) 0 → settings_ok W.head.count a.list ≡ true
     go true q h = q
     go false q h = absurd (omega arith)
 
-pub still_handled : (p : Phase) (W : Worker) (at : At) (a : Answer) → answers (awaited p) a ≡ true → contents W a ≡ 0 → Still W (handled p W at a)
+pub still_handled : (p : Phase) (W : Worker) (at : At) (a : Answer) → answers (awaited p) a.kind ≡ true → contents W a ≡ 0 → Still W (handled p W at a)
 unfolding handled answers awaited
 still_handled Begin W at a k e = still_top W
 still_handled Connect W at a k e = still_connect_answered W a

@@ -1,6 +1,7 @@
 -- Rule 9: a step needs no second round at its clock reading. (The definition of a step says what would be done if one were needed: `lastly` in `Polling` of `cycles`.)
 use Rattle.std.specs.Prelude.{◌≡◌, cond, length}
-use Rattle.replies.specs.Worker.{Worker, At, Told, at, goes_on}
+use Rattle.replies.specs.declared.at.At.{At}
+use Rattle.replies.specs.Worker.{Worker, Told, at, goes_on}
 use Rattle.cycles.specs.Polling.{poll}
 use Rattle.step_checks.specs.Awaited.{Answer, step_check}
 use Rattle.worker.specs.Steps.{handled, clocked, stepped}

@@ -21,7 +21,7 @@ use Rattle.table.specs.declared.tag.Description.{Description}
 use Rattle.table.specs.declared.tag.Description.TheVariants.{Nothing as NoDescription}
 use Rattle.table.specs.declared.tag.Tag.{Tag}
 use Rattle.values.specs.declared.entry.Entry.{Entry}
-use Rattle.values.specs.declared.entry.TagResult.{TagResult}
+use Rattle.values.specs.Entry.{TagResult}
 use Rattle.tiers.specs.Listed.{Listed}
 use Rattle.apply.specs.Apply.{tag_read, tag_applied, applied_at}
 use Rattle.results.specs.Results.{result_count, result_in}
@@ -48,15 +48,20 @@ use Rattle.board.specs.Board.{Board, with_records, with_queue, with_asked}
 use Rattle.readings.specs.Changes.{applied_to}
 use Rattle.replies.specs.Reply as reply
 use Rattle.replies.specs.declared.reply.Reply.{Reply}
-use Rattle.replies.specs.Worker.{Worker, At, Told, tell, asks, with_board, phased, linked, stated, tallied, goes_on}
+use Rattle.replies.specs.declared.at.At.{At}
+use Rattle.replies.specs.Worker.{Worker, Told, tell, asks, with_board, phased, linked, stated, tallied, goes_on}
 use Rattle.replies.specs.Losing.{is_empty, without_writes, failing, ended, backing_off, disconnected, staling, down, top}
 use Rattle.cycles.specs.Polling.{elapsed, remaining, polls, waiting, idle, tail, resume, writing_of, writing, checking, reading, round_at, with_worked, worked, polled, poll, lastly, finished}
-use Rattle.step_checks.specs.Awaited.{Answer, awaited, either, answers, contents}
-use Rattle.step_answers.specs.Answers.{number_of, versioned, connected, reconnecting, opened, open_version, round_version, results, descriptions, written, read_back, back_applied, waited, backed_off, connect_answered}
+use Rattle.step_checks.specs.declared.answer.Kind.{Kind}
+use Rattle.step_checks.specs.declared.answer.Kind.TheVariants as kind
+use Rattle.step_checks.specs.Kinds.{is_opened, is_lost, is_descriptions}
+use Rattle.step_checks.specs.Awaited.{Answer, awaited, answers, contents}
+use Rattle.step_answers.specs.Answers.{number_of, versioned, connected, reconnecting, opened, open_version, round_version, results, descriptions, written_as, written, read_back, back_applied, waited, backed_off, connect_answered}
 use Rattle.worker.specs.Steps.{taken, handled}
 use Rattle.checks.specs.Calls.{max_writes}
 use Rattle.uncut.specs.Uncut.{board_roomed, roomed}
 use Rattle.turns.proofs.TierLaws.{settings_of, map-kept, set-kept}
+use Rattle.turns.proofs.StillLaws.{settings_met}
 use Rattle.uncut.proofs.FitLaws.{cut_same, ranks_few, Numbered, numbered_same, numbered_version, is_graced, fit_tags, Fits}
 use Rattle.uncut.proofs.RoomLaws.{polling_roomed, tick_same, boundary_same, list_same, after_same, round_fits, groups_fit, list_few, room_enough}
 
@@ -380,20 +385,20 @@ module _ (rows n : ℕ) where
   fits_versioned W f connecting a ok =
       let old = W.head.link.version in
       let T = W.board.table in
-      fits_records rows W.board f _ (version-graces old (number_of a) connecting a.list T.words T.tags)
-      (numbered_version W.head.count a.list ok old (number_of a) connecting T.words T.tags f.table_fits.numbered)
+      fits_records rows W.board f _ (version-graces old (number_of a.kind) connecting a.list T.words T.tags)
+      (numbered_version W.head.count a.list ok old (number_of a.kind) connecting T.words T.tags f.table_fits.numbered)
 
   alike_open_version : (W : Worker) → Fits rows W.board → (a : Answer) → settings_ok W.head.count a.list ≡ true → Alike (open_version W a) (open_version (roomed n W) a)
   unfolding open_version
   alike_open_version W f a ok =
       let g = fits_versioned W f true a ok in
-      alike_if (is_reloaded W.head.link.version (number_of a)) _ _ _ _ (alike_tell _ _ [] g (omega arith)) (alike_connected (versioned W true a) g)
+      alike_if (is_reloaded W.head.link.version (number_of a.kind)) _ _ _ _ (alike_tell _ _ [] g (omega arith)) (alike_connected (versioned W true a) g)
 
   alike_round-version : (W : Worker) → Fits rows W.board → (at : At) (a : Answer) → settings_ok W.head.count a.list ≡ true → Alike (round_version W at a) (round_version (roomed n W) at a)
   unfolding round_version
   alike_round-version W f at a ok =
       let g = fits_versioned W f false a ok in
-      alike_if (is_reloaded W.head.link.version (number_of a)) _ _ _ _ (alike_tell _ _ [] g (omega arith)) (alike_writing at (versioned W false a) g Tail)
+      alike_if (is_reloaded W.head.link.version (number_of a.kind)) _ _ _ _ (alike_tell _ _ [] g (omega arith)) (alike_writing at (versioned W false a) g Tail)
 
   alike_results : (W : Worker) → Fits rows W.board → (at : At) (a : Answer) → Alike (results W at a) (results (roomed n W) at a)
   unfolding results
@@ -403,7 +408,7 @@ module _ (rows n : ℕ) where
       let next = with_board W C.board in
       let g = applied_fits rows W.board f a.list start at.wall true in
       rw (applied_same rows W.board f a.list start at.wall true n)
-      (alike_if (eqb a.kind 6) _ _ _ _ (alike_down W f)
+      (alike_if (is_lost a.kind) _ _ _ _ (alike_down W f)
       (alike_if (is_empty C.changes) _ _ _ _ (alike_reading at next g)
       (alike_tell (phased next ValuesTold) _ _ g (changes_few rows W.board f C.board.table.tags C.changes (applied_few rows W.board f a.list start at.wall true)))))
 
@@ -417,12 +422,12 @@ module _ (rows n : ℕ) where
   alike_descriptions W f a =
       let B = W.board in
       let tags = B.table.tags in
-      let known = cond (eqb a.kind 9) (learnt a.list B.asked tags) (learnt_none B.asked tags) in
+      let known = cond (is_descriptions a.kind) (learnt a.list B.asked tags) (learnt_none B.asked tags) in
       let found = take (found_count a.list) B.asked in
       let none : ℕ → Description = λ i. NoDescription in
-      let e : map is_graced known ≡ map is_graced tags = cond_known (eqb a.kind 9) _ _ (λ (l : List Tag). map is_graced l ≡ map is_graced tags)
+      let e : map is_graced known ≡ map is_graced tags = cond_known (is_descriptions a.kind) _ _ (λ (l : List Tag). map is_graced l ≡ map is_graced tags)
       (known_kept is_graced (λ x d. refl) (found_in a.list) 0 found tags) (known_kept is_graced (λ x d. refl) none 0 B.asked tags) in
-      let s : map settings_of known ≡ map settings_of tags = cond_known (eqb a.kind 9) _ _ (λ (l : List Tag). map settings_of l ≡ map settings_of tags)
+      let s : map settings_of known ≡ map settings_of tags = cond_known (is_descriptions a.kind) _ _ (λ (l : List Tag). map settings_of l ≡ map settings_of tags)
       (known_kept settings_of (λ x d. refl) (found_in a.list) 0 found tags) (known_kept settings_of (λ x d. refl) none 0 B.asked tags) in
       alike_tell (phased (with_board W (with_records B known)) InfoTold) _ (tag_bytes B.asked) (fits_records rows B f known e (numbered_same known tags s f.table_fits.numbered))
       (tags_few rows B f B.asked f.asked_few)
@@ -436,16 +441,20 @@ module _ (rows n : ℕ) where
       let few : length (read_back_tags W.board.table.words k) ≤ room = omega (arith, t.backs k, t.graced.enough, t.long) in
       cut_same (room + n) room (read_back_tags W.board.table.words k) (omega (arith, few)) few
 
-  alike_written : (W : Worker) → Fits rows W.board → (a : Answer) → Alike (written W a) (written (roomed n W) a)
-  unfolding written
-  alike_written W f a =
+  alike_written_as : (W : Worker) → Fits rows W.board → (k : Kind) → Alike (written_as W k) (written_as (roomed n W) k)
+  alike_written_as W f kind.Written =
       let B = W.board in
       let k = W.head.progress.tag in
       let asked = take B.table.room (read_back_tags B.table.words k) in
       let few : length asked ≤ rows = omega (arith, length-take B.table.room (read_back_tags B.table.words k), f.table_fits.backs k) in
       rw (back_same W f k)
-      (alike_if (eqb a.kind 7) _ _ _ _ (alike_tell (phased (with_board W (with_asked B asked)) ReadBack) _ (tag_bytes asked) (fits_asked rows B f asked few) (tags_few rows B f asked few))
-      (alike_if (eqb a.kind 8) _ _ _ _ (alike_ask W f RefusedTold _) (alike_ask W f LostTold _)))
+      (alike_tell (phased (with_board W (with_asked B asked)) ReadBack) _ (tag_bytes asked) (fits_asked rows B f asked few) (tags_few rows B f asked few))
+  alike_written_as W f (kind.Refused error message) = alike_ask W f RefusedTold _
+  alike_written_as W f k = alike_ask W f LostTold _
+
+  alike_written : (W : Worker) → Fits rows W.board → (a : Answer) → Alike (written W a) (written (roomed n W) a)
+  unfolding written
+  alike_written W f a = alike_written_as W f a.kind
 
   alike_read-back : (W : Worker) → Fits rows W.board → (a : Answer) → Alike (read_back W a) (read_back (roomed n W) a)
   unfolding read_back
@@ -453,7 +462,7 @@ module _ (rows n : ℕ) where
       let B = W.board in
       let few = length-take (result_count a.list) B.asked in
       let g : Fits rows (with_asked B (take (result_count a.list) B.asked)) = fits_asked rows B f _ (omega (arith, few, f.asked_few)) in
-      alike_if (eqb a.kind 6) _ _ _ _ (alike_ask W f LostTold _)
+      alike_if (is_lost a.kind) _ _ _ _ (alike_ask W f LostTold _)
       (alike_tell (phased (with_board W (kept_back B a.list)) OutcomeTold) _ []
       (record { table_fits = g.table_fits; groups_fit = g.groups_fit; named = g.named; asked_few = g.asked_few; queue_few = g.queue_few; some = g.some }) (omega arith))
 
@@ -477,7 +486,7 @@ module _ (rows n : ℕ) where
   alike_backed_off W f = alike_if W.head.link.stopping _ _ _ _ (alike_ended W f) (alike_reconnecting W f)
 
   alike_connect_answered : (W : Worker) → Fits rows W.board → (a : Answer) → Alike (connect_answered W a) (connect_answered (roomed n W) a)
-  alike_connect_answered W f a = alike_if (eqb a.kind 1) _ _ _ _ (alike_opened W f) (alike_down W f)
+  alike_connect_answered W f a = alike_if (is_opened a.kind) _ _ _ _ (alike_opened W f) (alike_down W f)
 
   alike_taken : (p : Phase) (W : Worker) → Fits rows W.board → (at : At) → Alike (taken p W at) (taken p (roomed n W) at)
   unfolding taken
@@ -507,16 +516,7 @@ module _ (rows n : ℕ) where
   alike_taken ConnectingTold W f at = alike_top W f
   alike_taken Stopped W f at = alike_top W f
 
-  -- Check 14 of a version's settings, where that is what the phase waits for
-  settings_met : (W : Worker) (a : Answer) → either a.kind 3 4 ≡ true → contents W a ≡ 0 → settings_ok W.head.count a.list ≡ true
-  unfolding contents
-  settings_met W a k e = go (settings_ok W.head.count a.list) refl (rw k at e)
-    where
-      go : (b : Bool) → settings_ok W.head.count a.list ≡ b → ◌≡◌ {A = ℕ} (cond b 0 14) 0 → settings_ok W.head.count a.list ≡ true
-      go true q h = q
-      go false q h = absurd (omega arith)
-
-  pub alike_handled : (p : Phase) (W : Worker) → Fits rows W.board → (at : At) (a : Answer) → answers (awaited p) a ≡ true → contents W a ≡ 0 → Alike (handled p W at a) (handled p (roomed n W) at a)
+  pub alike_handled : (p : Phase) (W : Worker) → Fits rows W.board → (at : At) (a : Answer) → answers (awaited p) a.kind ≡ true → contents W a ≡ 0 → Alike (handled p W at a) (handled p (roomed n W) at a)
   unfolding handled answers awaited
   alike_handled Begin W f at a k e = alike_top W f
   alike_handled Connect W f at a k e = alike_connect_answered W f a

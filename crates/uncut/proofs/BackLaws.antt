@@ -34,11 +34,15 @@ use Rattle.stale.specs.Stale.{staled_in}
 use Rattle.descriptions.specs.Descriptions.{describing}
 use Rattle.fresh.specs.Fresh.{fresh_board}
 use Rattle.replies.specs.Reply as reply
-use Rattle.replies.specs.Worker.{Worker, At, at, Told, tell, asks, with_board, phased, tallied, goes_on}
+use Rattle.replies.specs.declared.at.At.{At}
+use Rattle.replies.specs.Worker.{Worker, at, Told, tell, asks, with_board, phased, tallied, goes_on}
 use Rattle.replies.specs.Losing.{is_empty, ended, backing_off, disconnected, staling, down, top}
 use Rattle.cycles.specs.Polling.{elapsed, remaining, polls, idle, tail, resume, writing_of, writing, checking, reading, round_at, with_worked, polled, poll, lastly, finished}
+use Rattle.step_checks.specs.declared.answer.Kind.{Kind}
+use Rattle.step_checks.specs.declared.answer.Kind.TheVariants as kind
+use Rattle.step_checks.specs.Kinds.{is_opened, is_lost}
 use Rattle.step_checks.specs.Awaited.{Answer}
-use Rattle.step_answers.specs.Answers.{number_of, versioned, connected, reconnecting, opened, open_version, round_version, results, descriptions, written, read_back, back_applied, waited, backed_off}
+use Rattle.step_answers.specs.Answers.{number_of, versioned, connected, reconnecting, opened, open_version, round_version, results, descriptions, written_as, written, read_back, back_applied, waited, backed_off}
 use Rattle.worker.specs.Steps.{taken, handled, clocked, stepped, step}
 use Rattle.checks.specs.Calls.{tier_check, load_check, write_check}
 use Rattle.capi.specs.Calls.{tiered, loaded, wrote, answer_of}
@@ -52,9 +56,13 @@ use Rattle.turns.proofs.StepLaws.{step_cases}
 use Rattle.uncut.specs.Backs.{BackWhole, BacksWhole}
 use Rattle.queue.specs.declared.Write.{Write as Queued}
 
+abbrev is_read_back : Phase → Bool
+is_read_back ReadBack = true
+is_read_back p = false
+
 -- whether an engine waits for a read-back
 abbrev waits_back : Worker → Bool
-waits_back W = eqb (phase_number W.head.progress.phase) 7
+waits_back W = is_read_back W.head.progress.phase
 
 -- either of two
 either : {A : Type 0} (P : A → Type 0) (b : Bool) (x y : A) → P x → P y → P (cond b x y)
@@ -172,20 +180,20 @@ apart_open_version : (W : Worker) (a : Answer) → Apart W (open_version W a)
 unfolding open_version
 apart_open_version W a =
     let next = versioned W true a in
-    either (Apart W) (is_reloaded W.head.link.version (number_of a)) _ _ (record { away = λ w. refl; long = refl }) (apart_after W next (connected next) refl refl (apart_connected next))
+    either (Apart W) (is_reloaded W.head.link.version (number_of a.kind)) _ _ (record { away = λ w. refl; long = refl }) (apart_after W next (connected next) refl refl (apart_connected next))
 
 apart_round-version : (W : Worker) (at : At) (a : Answer) → Apart W (round_version W at a)
 unfolding round_version
 apart_round-version W at a =
     let next = versioned W false a in
-    either (Apart W) (is_reloaded W.head.link.version (number_of a)) _ _ (record { away = λ w. refl; long = refl }) (apart_after W next (writing next at Tail) refl refl (apart_writing at next Tail))
+    either (Apart W) (is_reloaded W.head.link.version (number_of a.kind)) _ _ (record { away = λ w. refl; long = refl }) (apart_after W next (writing next at Tail) refl refl (apart_writing at next Tail))
 
 apart_results : (W : Worker) (at : At) (a : Answer) → Apart W (results W at a)
 unfolding results applied_to
 apart_results W at a =
     let C = applied_to W.board a.list W.head.progress.start at.wall true in
     let next = with_board W C.board in
-    either (Apart W) (eqb a.kind 6) _ _ (apart_down W)
+    either (Apart W) (is_lost a.kind) _ _ (apart_down W)
     (either (Apart W) (is_empty C.changes) _ _ (apart_after W next (reading next at) refl refl (apart_reading at next)) (record { away = λ w. refl; long = refl }))
 
 apart_descriptions : (W : Worker) (a : Answer) → Apart W (descriptions W a)
@@ -261,16 +269,19 @@ two words k n = omega (arith, length-take n (read_back_tags words k), go (ltb 1 
     go true = omega arith
     go false = omega arith
 
+held_written_as : (W : Worker) (k : Kind) → Held W → HeldTold (written_as W k)
+held_written_as W kind.Written v = record { held = record { long = v.long; few = λ t. two W.board.table.words W.head.progress.tag W.board.table.room }; on = λ g. absurd (true≢false (sym g)) }
+held_written_as W (kind.Refused error message) v = record { held = away_held _ v.long refl; on = λ g. refl }
+held_written_as W k v = record { held = away_held _ v.long refl; on = λ g. refl }
+
 held_written : (W : Worker) (a : Answer) → Held W → HeldTold (written W a)
 unfolding written
-held_written W a v =
-    either HeldTold (eqb a.kind 7) _ _ (record { held = record { long = v.long; few = λ t. two W.board.table.words W.head.progress.tag W.board.table.room }; on = λ g. absurd (true≢false (sym g)) })
-    (either HeldTold (eqb a.kind 8) _ _ (record { held = away_held _ v.long refl; on = λ g. refl }) (record { held = away_held _ v.long refl; on = λ g. refl }))
+held_written W a v = held_written_as W a.kind v
 
 held_read-back : (W : Worker) (a : Answer) → Held W → HeldTold (read_back W a)
 unfolding read_back
 held_read-back W a v =
-    either HeldTold (eqb a.kind 6) _ _ (record { held = away_held _ v.long refl; on = λ g. refl })
+    either HeldTold (is_lost a.kind) _ _ (record { held = away_held _ v.long refl; on = λ g. refl })
     (record { held = away_held _ (over-length W.board.back a.list ∙ v.long) refl; on = λ g. refl })
 
 -- an answer to an engine in the phase p
@@ -278,15 +289,15 @@ held_handled : (p : Phase) (W : Worker) (at : At) (a : Answer) → W.head.progre
 unfolding handled
 held_handled p W at a e v = go p e
   where
-    quiet : (q : Phase) → W.head.progress.phase ≡ q → eqb (phase_number q) 7 ≡ false → waits_back W ≡ false
-    quiet q e h = ap (λ (x : Phase). eqb (phase_number x) 7) e ∙ h
+    quiet : (q : Phase) → W.head.progress.phase ≡ q → is_read_back q ≡ false → waits_back W ≡ false
+    quiet q e h = ap is_read_back e ∙ h
 
-    by : (q : Phase) (T : Told) → W.head.progress.phase ≡ q → eqb (phase_number q) 7 ≡ false → Apart W T → HeldTold T
+    by : (q : Phase) (T : Told) → W.head.progress.phase ≡ q → is_read_back q ≡ false → Apart W T → HeldTold T
     by q T e h s = apart_held W T v (quiet q e h) s
 
     go : (q : Phase) → W.head.progress.phase ≡ q → HeldTold (handled q W at a)
     go Begin e = by Begin _ e refl (apart_top W)
-    go Connect e = by Connect _ e refl (either (Apart W) (eqb a.kind 1) _ _ (apart_opened W) (apart_down W))
+    go Connect e = by Connect _ e refl (either (Apart W) (is_opened a.kind) _ _ (apart_opened W) (apart_down W))
     go OpenVersion e = by OpenVersion _ e refl (apart_open_version W a)
     go Version e = by Version _ e refl (apart_round-version W at a)
     go Read e = by Read _ e refl (apart_results W at a)
@@ -368,7 +379,7 @@ module _ (W : Worker) (v : Held W) (e : W.head.progress.phase ≡ ReadBack) (at 
 
   kept : (i : ℕ) → i < length (take (result_count a.list) W.board.asked) → result_in (over_bytes W.board.back a.list) i ≡ result_in a.list i
   kept i l =
-      let few : length W.board.asked ≤ 2 = v.few (ap (λ (x : Phase). eqb (phase_number x) 7) e) in
+      let few : length W.board.asked ≤ 2 = v.few (ap is_read_back e) in
       let long = length-take (result_count a.list) W.board.asked in
       over_result W.board.back a.list i (omega (arith, few, long, v.long)) (omega (arith, long))
 
@@ -381,7 +392,7 @@ module _ (W : Worker) (v : Held W) (e : W.head.progress.phase ≡ ReadBack) (at 
 
   kept-stepped : Kept (stepped W at a)
   unfolding stepped handled read_back finished
-  kept-stepped = rw e (go (eqb a.kind 6))
+  kept-stepped = rw e (go (is_lost a.kind))
     where
       go : (b : Bool) → Kept (finished (cond b lost came) at)
       go true f = absurd (omega (arith, ap phase_number f))

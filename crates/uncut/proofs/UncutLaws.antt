@@ -38,7 +38,8 @@ use Rattle.histories.specs.Histories.{at_each, answers, states}
 use Rattle.board.specs.Board.{Board, with_table, Table}
 use Rattle.fresh.specs.Fresh.{fresh_board}
 use Rattle.writes.specs.ReadBack.{read_back_tags}
-use Rattle.replies.specs.Worker.{Worker, At, Told, tell, at, goes_on}
+use Rattle.replies.specs.declared.at.At.{At}
+use Rattle.replies.specs.Worker.{Worker, Told, tell, at, goes_on}
 use Rattle.cycles.specs.Polling.{waiting, writing, round_at, polled, poll, lastly, finished}
 use Rattle.replies.specs.Reply as reply
 use Rattle.step_checks.specs.Awaited.{Answer, contents, step_check}

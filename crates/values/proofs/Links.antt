@@ -6,9 +6,7 @@ use prog.LinkedThreads.{HasT}
 use prog.Wired.{Code}
 use Rattle.values.proofs.TheLink as link
 use Rattle.values.proofs.TheLinks.values-deadband-within_deadband
-use Rattle.values.proofs.TheLinks.values-entry-is_good
 use Rattle.values.proofs.TheLinks.values-entry-merge
-use Rattle.values.proofs.TheLinks.values-entry-quality_of
 use Rattle.values.proofs.TheLinks.values-entry-same
 
 abbrev pub table : Tree
@@ -23,14 +21,8 @@ Linked c = (W : World) → Holds W "values" table → Below W → HasT (in_world
 pub deadband_within_deadband : Linked values-deadband-within_deadband.code
 deadband_within_deadband = link.linked-values::deadband::within_deadband
 
-pub entry_is_good : Linked values-entry-is_good.code
-entry_is_good = link.linked-values::entry::is_good
-
 pub entry_merge : Linked values-entry-merge.code
 entry_merge = link.linked-values::entry::merge
-
-pub entry_quality_of : Linked values-entry-quality_of.code
-entry_quality_of = link.linked-values::entry::quality_of
 
 pub entry_same : Linked values-entry-same.code
 entry_same = link.linked-values::entry::same

@@ -1,6 +1,6 @@
 // Rule 2: the quality of a reading, and what a reading makes of the cached entry.
 ghost use Rattle.std.specs.Prelude.{◌≡◌};
-ghost use Rattle.values.specs.Entry.{quality_number, is_good, quality_of, kept, merged_value, merged, same_entry};
+ghost use Rattle.values.specs.Entry.{quality_number, is_good, quality_of, kept, failed_value, merged, same_entry};
 
 use super::error::{ErrorKind, TagError, same_error};
 use super::value::{Value, same_value};
@@ -22,12 +22,8 @@ pub struct Entry {
     pub error: Option<TagError>,
 }
 
-// What the host read of one tag; where there is an error the value does not count.
-#[derive(Clone, Copy)]
-pub struct TagResult {
-    pub value: Value,
-    pub error: Option<TagError>,
-}
+// What the host read of one tag.
+pub type TagResult = Result<Value, TagError>;
 
 // 0 for good, 1 for bad, 2 for missing, 3 for stale.
 pub fn quality_number(q: Quality) -> u8
@@ -48,13 +44,10 @@ pub fn is_good(q: Quality) -> bool
 }
 
 // The quality that an error means.
-pub fn quality_of(e: Option<TagError>) -> Quality
+fn quality_of(e: TagError) -> Quality
     ensures { result ≡ quality_of e }
 {
-    let Some(x) = e else {
-        return Quality::Good;
-    };
-    match x.kind {
+    match e.kind {
         ErrorKind::NotFound | ErrorKind::Access => Quality::Missing,
         ErrorKind::Other(_) => Quality::Bad,
     }
@@ -70,12 +63,12 @@ pub fn kept_value(old: Option<Entry>) -> Value
     }
 }
 
-fn merged_value(q: Quality, read: Value, old: Option<Entry>) -> Value
-    ensures { result ≡ merged_value q read old }
+// The value of an entry whose reading failed.
+fn failed_value(q: Quality, old: Option<Entry>) -> Value
+    ensures { result ≡ failed_value q old }
 {
     match q {
-        Quality::Good => read,
-        Quality::Bad | Quality::Stale => kept_value(old),
+        Quality::Good | Quality::Bad | Quality::Stale => kept_value(old),
         Quality::Missing => Value::Null,
     }
 }
@@ -84,16 +77,26 @@ fn merged_value(q: Quality, read: Value, old: Option<Entry>) -> Value
 pub fn merge(old: Option<Entry>, res: TagResult, t: i64) -> Entry
     ensures { result ≡ merged old res t }
 {
-    let quality = quality_of(res.error);
-    Entry {
-        value: merged_value(quality, res.value, old),
-        quality,
-        t,
-        error: res.error,
+    match res {
+        Ok(value) => Entry {
+            value,
+            quality: Quality::Good,
+            t,
+            error: None,
+        },
+        Err(e) => {
+            let quality = quality_of(e);
+            Entry {
+                value: failed_value(quality, old),
+                quality,
+                t,
+                error: Some(e),
+            }
+        }
     }
 }
 
-// Whether value, quality and error are the same; the time does not count.
+// Whether value, quality and error are the same; the time does not count, so this is no `==`.
 pub fn same(a: Entry, b: Entry) -> bool
     ensures { result ≡ same_entry a b }
 {

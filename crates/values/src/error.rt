@@ -27,6 +27,7 @@ pub fn kind_number(k: ErrorKind) -> u32
     }
 }
 
+// Here and below no derived `==`, which would call std, as an engine's code must not.
 fn same_tag_error(a: TagError, b: TagError) -> bool
     ensures { result ≡ same_tag_error a b }
 {

@@ -2,7 +2,7 @@
 // reading is lost, and so is every attempt to connect again.
 use memory::cells::put_cell;
 use replies::reply::Reply;
-use step_checks::awaiting::Answer;
+use step_checks::answer::Kind;
 
 // A reading is four cells: the value's kind and word, the error's word and its message.
 const CELLS: usize = 4;
@@ -60,14 +60,14 @@ impl Host {
     // The kind of the answer to a request or an event, as numbers of the C interface, where `rounds` counts a reading asked for now.
     pub fn answer(self, kind: u64) -> u64 {
         match kind {
-            Reply::CONNECT if self.rounds == 0 => Answer::OPENED,
-            Reply::CONNECT => Answer::NOT_OPENED,
-            Reply::VERSION => Answer::NO_VERSION,
-            Reply::READ if self.rounds < 3 => Answer::RESULTS,
-            Reply::READ => Answer::LOST,
-            Reply::DESCRIBE => Answer::NOT_DESCRIBED,
-            Reply::WAIT => Answer::WAITED,
-            _ => Answer::TAKEN,
+            Reply::CONNECT if self.rounds == 0 => Kind::OPENED,
+            Reply::CONNECT => Kind::NOT_OPENED,
+            Reply::VERSION => Kind::NO_VERSION,
+            Reply::READ if self.rounds < 3 => Kind::RESULTS,
+            Reply::READ => Kind::LOST,
+            Reply::DESCRIBE => Kind::NOT_DESCRIBED,
+            Reply::WAIT => Kind::WAITED,
+            _ => Kind::TAKEN,
         }
     }
 

@@ -6,11 +6,11 @@ use capi::creation::wz_create;
 use changes::{Change, read_changes};
 use heads::options::Options;
 use lent::changes::CHANGE;
-use names::directory::MAX_NAMES;
+use names::directory::{Directory, MAX_NAMES};
 use replies::reply::Reply;
 use std::alloc::{AllocError, Global};
 use std::{io, str};
-use step_checks::awaiting::Answer;
+use step_checks::answer::Kind;
 
 const NAMES: [u8; 18] = *b"AlarmFlowLevelPump";
 
@@ -40,7 +40,7 @@ impl Watch {
             mem: vec![in alloc; 0u8; MEMORY]?,
             host: Host::default(),
             out: vec![in alloc; 0u8; LIST]?,
-            run: vec![in alloc; Change::none(); MAX_NAMES]?,
+            run: vec![in alloc; Change::default(); MAX_NAMES]?,
         })
     }
 
@@ -62,7 +62,7 @@ impl Watch {
     fn step(&mut self, kind: u64) -> Reply {
         let clock = self.host.clock;
         let wall = self.host.wall();
-        if kind == Answer::RESULTS {
+        if kind == Kind::RESULTS {
             let list = self.host.readings();
             return wz_step(&mut self.mem, clock, wall, kind, 0, 0, &list, &mut self.out);
         }
@@ -84,10 +84,16 @@ impl Watch {
             return Ok(());
         }
         let n = r.count as usize;
-        read_changes(&mut self.run, &self.out, n);
+        if let Err(refusal) = read_changes(&mut self.run, &self.out, n) {
+            return println!(rt; "refused {}", refusal.number());
+        }
+        let directory = Directory {
+            names: &NAMES,
+            ends: &ENDS,
+        };
         println!(rt; "values {n}")?;
         for change in self.run.iter().take(n) {
-            let name = directory::name_in(&NAMES, &ENDS, usize::from(change.tag));
+            let name = directory.name(usize::from(change.tag));
             let name = str::from_utf8(name).unwrap_or("?");
             println!(rt;
                 "{}",
@@ -101,7 +107,7 @@ impl Watch {
     }
 
     fn steps(&mut self, rt: &impl Print) -> io::Result<()> {
-        let mut kind = Answer::BEGIN;
+        let mut kind = Kind::BEGIN;
         for _ in 0..30 {
             let r = self.step(kind);
             if r.code != 0 {

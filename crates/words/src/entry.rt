@@ -4,9 +4,9 @@ ghost use Rattle.values.specs.Entry.{quality_number};
 ghost use Rattle.std.specs.Prelude.{Some};
 ghost use Rattle.words.specs.Entry.{quality_from, entry_from, held_from, entry_words_of, held_words_of};
 
-use super::error::{error_from, error_words};
+use super::error::{ErrorWords, error_from};
 use super::scalar::{int_of_word, word_of_int};
-use super::value::{value_from, value_words};
+use super::value::{ValueWords, value_from};
 use values::entry::{Entry, Quality};
 
 // held: 0 where there is no entry, and otherwise the quality's number and 1.
@@ -21,6 +21,7 @@ pub struct EntryWords {
     pub message: u64,
 }
 
+// A function each way, and no `From`: the number is one of many that a `u64` may be.
 pub fn quality_from(held: u64) -> Quality
     ensures { result ≡ quality_from held }
 {
@@ -43,53 +44,60 @@ pub fn quality_word(q: Quality) -> u64
     }
 }
 
-pub fn entry_from(w: EntryWords) -> Entry
-    ensures { result ≡ entry_from w }
-{
-    Entry {
-        value: value_from(w.kind, w.word),
-        quality: quality_from(w.held),
-        t: int_of_word(w.t),
-        error: error_from(w.error, w.message),
+impl From<EntryWords> for Entry {
+    ghost from_gives = { λ w e. e ≡ entry_from w };
+
+    fn from(w: EntryWords) -> Entry {
+        Entry {
+            value: value_from(w.kind, w.word),
+            quality: quality_from(w.held),
+            t: int_of_word(w.t),
+            error: error_from(w.error, w.message),
+        }
     }
 }
 
+// A function by name: `From` for an `Option` is std's.
 pub fn held_from(w: EntryWords) -> Option<Entry>
     ensures { result ≡ held_from w }
 {
     if w.held == 0 {
         return None;
     }
-    Some(entry_from(w))
+    Some(Entry::from(w))
 }
 
-pub fn entry_words(e: Entry) -> EntryWords
-    ensures { (held_from result ≡ Some e) × (result ≡ entry_words_of e) }
-{
-    let value = value_words(e.value);
-    let error = error_words(e.error);
-    EntryWords {
-        held: quality_word(e.quality),
-        kind: value.kind,
-        word: value.word,
-        t: word_of_int(e.t),
-        error: error.kind,
-        message: error.message,
+impl From<Entry> for EntryWords {
+    ghost from_gives = { λ e words. (held_from words ≡ Some e) × (words ≡ entry_words_of e) };
+
+    fn from(e: Entry) -> EntryWords {
+        let value = ValueWords::from(e.value);
+        let error = ErrorWords::from(e.error);
+        EntryWords {
+            held: quality_word(e.quality),
+            kind: value.kind,
+            word: value.word,
+            t: word_of_int(e.t),
+            error: error.kind,
+            message: error.message,
+        }
     }
 }
 
-pub fn held_words(h: Option<Entry>) -> EntryWords
-    ensures { (held_from result ≡ h) × (result ≡ held_words_of h) }
-{
-    match h {
-        None => EntryWords {
-            held: 0,
-            kind: 0,
-            word: 0,
-            t: 0,
-            error: 0,
-            message: 0,
-        },
-        Some(e) => entry_words(e),
+impl From<Option<Entry>> for EntryWords {
+    ghost from_gives = { λ h words. (held_from words ≡ h) × (words ≡ held_words_of h) };
+
+    fn from(h: Option<Entry>) -> EntryWords {
+        match h {
+            None => EntryWords {
+                held: 0,
+                kind: 0,
+                word: 0,
+                t: 0,
+                error: 0,
+                message: 0,
+            },
+            Some(e) => EntryWords::from(e),
+        }
     }
 }

@@ -12,6 +12,7 @@ pub struct ErrorWords {
     pub message: u64,
 }
 
+// No `From`: the number is one of many that a `u64` may be.
 fn kind_from(n: u64) -> ErrorKind
     ensures { result ≡ kind_from n }
 {
@@ -47,17 +48,19 @@ pub fn error_from(kind: u64, message: u64) -> Option<TagError>
     })
 }
 
-pub fn error_words(e: Option<TagError>) -> ErrorWords
-    ensures { (error_from result.kind result.message ≡ e) × (result ≡ error_words_of e) }
-{
-    match e {
-        None => ErrorWords {
-            kind: 0,
-            message: 0,
-        },
-        Some(x) => ErrorWords {
-            kind: kind_word(x.kind),
-            message: x.message as u64,
-        },
+impl From<Option<TagError>> for ErrorWords {
+    ghost from_gives = { λ e words. (error_from words.kind words.message ≡ e) × (words ≡ error_words_of e) };
+
+    fn from(e: Option<TagError>) -> ErrorWords {
+        match e {
+            None => ErrorWords {
+                kind: 0,
+                message: 0,
+            },
+            Some(x) => ErrorWords {
+                kind: kind_word(x.kind),
+                message: x.message as u64,
+            },
+        }
     }
 }

@@ -1,4 +1,4 @@
-// Floats, signed integers and flags as words.
+// Floats, signed integers and flags as words. Functions by name, since `From` between these types would be std's.
 ghost use Rattle.std.specs.Prelude.{◌≡◌, ltb};
 ghost use Rattle.std.specs.Float.{binary64};
 ghost use Rattle.std.specs.Float.Ieee.{to_bits, of_bits};

@@ -20,14 +20,16 @@ pub fn time_from(known: u64, word: u64) -> Option<f64>
     Some(float_of_word(word))
 }
 
-pub fn time_words(t: Option<f64>) -> TimeWords
-    ensures { time_from result.known result.word ≡ t }
-{
-    match t {
-        None => TimeWords { known: 0, word: 0 },
-        Some(x) => TimeWords {
-            known: 1,
-            word: word_of_float(x),
-        },
+impl From<Option<f64>> for TimeWords {
+    ghost from_gives = { λ t words. time_from words.known words.word ≡ t };
+
+    fn from(t: Option<f64>) -> TimeWords {
+        match t {
+            None => TimeWords { known: 0, word: 0 },
+            Some(x) => TimeWords {
+                known: 1,
+                word: word_of_float(x),
+            },
+        }
     }
 }

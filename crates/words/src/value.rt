@@ -12,26 +12,29 @@ pub struct ValueWords {
     pub word: u64,
 }
 
-pub fn value_words(v: Value) -> ValueWords
-    ensures { (value_from result.kind result.word ≡ v) × (result ≡ value_words_of v) }
-{
-    match v {
-        Value::Null => ValueWords { kind: 0, word: 0 },
-        Value::Bool(b) => ValueWords {
-            kind: 1,
-            word: b as u64,
-        },
-        Value::Int(n) => ValueWords {
-            kind: 2,
-            word: word_of_int(n),
-        },
-        Value::Float(x) => ValueWords {
-            kind: 3,
-            word: word_of_float(x),
-        },
+impl From<Value> for ValueWords {
+    ghost from_gives = { λ v words. (value_from words.kind words.word ≡ v) × (words ≡ value_words_of v) };
+
+    fn from(v: Value) -> ValueWords {
+        match v {
+            Value::Null => ValueWords { kind: 0, word: 0 },
+            Value::Bool(b) => ValueWords {
+                kind: 1,
+                word: b as u64,
+            },
+            Value::Int(n) => ValueWords {
+                kind: 2,
+                word: word_of_int(n),
+            },
+            Value::Float(x) => ValueWords {
+                kind: 3,
+                word: word_of_float(x),
+            },
+        }
     }
 }
 
+// No `From`, as the words come as two cells of memory or of C.
 pub fn value_from(kind: u64, word: u64) -> Value
     ensures { result ≡ value_from kind word }
 {

@@ -1,12 +1,15 @@
 -- Rule 9: a step.
-use Rattle.std.specs.Prelude.{false, cond, List, [], ◌≡◌, ℕ, eqb}
+use Rattle.std.specs.Prelude.{cond, List, [], ◌≡◌, ℕ, eqb, Result, Ok, Err}
+use Rattle.refusals.specs.Refusals.{number}
+use Rattle.refusals.specs.declared.Refusal.{Refusal}
 use Rattle.heads.specs.declared.progress.After.TheVariants.{Tail}
 use Rattle.heads.specs.declared.progress.Phase.{Phase}
 use Rattle.heads.specs.declared.progress.Phase.TheVariants.{Begin, Connect, OpenVersion, Version, Read, Describe, Write, ReadBack, Wait, Backoff, OpenFailedTold, OpenMetaTold, ConnectedTold, MetaTold, ValuesTold, InfoTold, RefusedTold, LostTold, OutcomeTold, BackTold, FailedTold, StaleTold, DisconnectedTold, ConnectingTold, Stopped}
 use Rattle.engine.specs.Engine.{with_clock}
-use Rattle.replies.specs.declared.reply.Said.{Said}
+use Rattle.replies.specs.declared.at.At.{At}
+use Rattle.replies.specs.declared.response.Said.{Said}
 use Rattle.replies.specs.Reply as reply
-use Rattle.replies.specs.Worker.{Worker, At, Told, Done, tell, asks, worker}
+use Rattle.replies.specs.Worker.{Worker, Told, Done, tell, asks, worker}
 use Rattle.replies.specs.Losing.{disconnected, backing_off, staling, down, top}
 use Rattle.cycles.specs.Polling.{polls, writing, checking, reading, finished}
 use Rattle.step_checks.specs.Awaited.{Answer, step_check}
@@ -81,7 +84,7 @@ step W at a out =
     let n = step_check W at a out in
     cond (eqb n 0) (stepped W at a) (tell W (reply.refused n) [])
 
--- What a step did: T, and where it was refused no byte was written.
-pub record Stepped (T : Told) (s : Said) (board board' out out' : List ℕ) : Type 0 where
-  pub done : Done T s board' out out'
-  pub kept : (eqb s.reply.code 0 ≡ false) → (board' ≡ board) × (out' ≡ out)
+-- What a step of the engine W did: T. Where it was refused, T is the refusal, and no byte was written.
+unfoldable pub Stepped : Worker → Told → Result Said Refusal → List ℕ → List ℕ → List ℕ → List ℕ → Type 0
+Stepped W T (Ok s) board board' out out' = Done T s board' out out'
+Stepped W T (Err r) board board' out out' = (T ≡ tell W (reply.refused (number r)) []) × (board' ≡ board) × (out' ≡ out)

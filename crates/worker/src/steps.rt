@@ -1,8 +1,8 @@
 // Rule 9: a step.
-ghost use Rattle.std.specs.Prelude.{List, ◌≡◌, ℕ, length};
+ghost use Rattle.std.specs.Prelude.{length};
 ghost use Rattle.board.specs.Board.{board_in};
 ghost use Rattle.board.specs.Layout.{IsBoard};
-ghost use Rattle.replies.specs.Worker.{at, worker, Done};
+ghost use Rattle.replies.specs.Worker.{worker, Done};
 ghost use Rattle.step_checks.specs.Awaited.{answer};
 ghost use Rattle.step_answers.specs.Answers.{connect_answered};
 ghost use Rattle.worker.specs.Steps.{taken, handled, step, Stepped};
@@ -10,98 +10,100 @@ ghost use Rattle.worker.specs.Steps.{taken, handled, step, Stepped};
 use cycles::polling::{checking, finish, polls, reading, writing};
 use engine::{Engine, with_clock};
 use heads::progress::{After, Phase};
+use refusals::Refusal;
+use replies::at::At;
 use replies::losing::{backing_off, disconnected, down, phased, staling, top};
-use replies::reply::{Reply, Said};
+use replies::response::{Response, Said};
 use step_answers::answers::{
     back_applied, backed_off, connected, descriptions, open_version, opened, read_back, results,
     round_version, waited, written,
 };
-use step_checks::awaiting::{Answer, step_check};
+use step_checks::answer::{Answer, Kind};
+use step_checks::awaiting::step_check;
 
-fn connect(board: &mut [u8], out: &mut [u8], e: Engine, a: Answer) -> Said
+#[tactic(auto, using(step_checks::proofs::KindLaws::not_opened))]
+fn connect<'a>(board: &mut [u8], out: &mut [u8], e: Engine, a: Answer<'a>) -> Said
     requires { IsBoard board.old }
-    ensures { (list : List ℕ) → Done (connect_answered (worker e (board_in board.old)) (answer a list)) result board.new out.old out.new }
+    ensures { Done (connect_answered (worker e (board_in board.old)) (answer a.entry)) result board.new out.old out.new }
 {
-    if a.kind == Answer::OPENED {
+    if let Kind::Opened = a.kind {
         return opened(board, out, e);
     }
     down(board, out, e)
 }
 
 // An event was taken.
-fn taken(board: &mut [u8], out: &mut [u8], e: Engine, p: Phase, clock: f64, wall: i64) -> Said
+#[tactic(auto, unfolding(crate::specs::Steps::taken))]
+fn taken(board: &mut [u8], out: &mut [u8], e: Engine, p: Phase, at: At) -> Said
     requires { IsBoard board.old }
-    ensures { Done (taken p (worker e (board_in board.old)) (at clock wall)) result board.new out.old out.new }
+    ensures { Done (taken p (worker e (board_in board.old)) at) result board.new out.old out.new }
 {
     let after = e.progress.after;
     match p {
-        Phase::OpenFailedTold => phased(e, Phase::OpenVersion, Reply::listed(Reply::VERSION, 0)),
+        Phase::OpenFailedTold => phased(e, Phase::OpenVersion, Response::Version),
         Phase::OpenMetaTold => connected(e),
         Phase::ConnectedTold => polls(e),
-        Phase::MetaTold => writing(board, out, e, clock, wall, After::Tail),
-        Phase::ValuesTold => reading(board, out, e, clock, wall),
-        Phase::InfoTold => checking(board, out, e, clock, wall),
-        Phase::RefusedTold => writing(board, out, e, clock, wall, after),
+        Phase::MetaTold => writing(board, out, e, at, After::Tail),
+        Phase::ValuesTold => reading(board, out, e, at),
+        Phase::InfoTold => checking(board, out, e, at),
+        Phase::RefusedTold | Phase::BackTold => writing(board, out, e, at, after),
         Phase::LostTold => down(board, out, e),
-        Phase::OutcomeTold => back_applied(board, out, e, clock, wall),
-        Phase::BackTold => writing(board, out, e, clock, wall, after),
+        Phase::OutcomeTold => back_applied(board, out, e, at),
         Phase::FailedTold => staling(board, out, e),
         Phase::StaleTold => disconnected(e),
         Phase::DisconnectedTold => backing_off(e),
-        _ => top(board, out, e),
+        Phase::ConnectingTold => top(board, out, e),
+        // These wait for no event, and none comes here.
+        Phase::Begin
+        | Phase::Connect
+        | Phase::OpenVersion
+        | Phase::Version
+        | Phase::Read
+        | Phase::Describe
+        | Phase::Write
+        | Phase::ReadBack
+        | Phase::Wait
+        | Phase::Backoff
+        | Phase::Stopped => top(board, out, e),
     }
 }
 
 // An accepted answer, by the phase that waited for it.
-fn handled(
-    board: &mut [u8],
-    out: &mut [u8],
-    e: Engine,
-    p: Phase,
-    a: Answer,
-    list: &[u8],
-    clock: f64,
-    wall: i64,
-) -> Said
+#[tactic(auto, unfolding(crate::specs::Steps::handled))]
+fn handled<'a>(board: &mut [u8], out: &mut [u8], e: Engine, p: Phase, a: Answer<'a>, at: At) -> Said
     requires { IsBoard board.old }
-    ensures { Done (handled p (worker e (board_in board.old)) (at clock wall) (answer a list.now)) result board.new out.old out.new }
+    ensures { Done (handled p (worker e (board_in board.old)) at (answer a.entry)) result board.new out.old out.new }
 {
     match p {
         Phase::Begin => top(board, out, e),
         Phase::Connect => connect(board, out, e, a),
-        Phase::OpenVersion => open_version(board, e, a, list),
-        Phase::Version => round_version(board, out, e, a, list, clock, wall),
-        Phase::Read => results(board, out, e, a, list, clock, wall),
-        Phase::Describe => descriptions(board, out, e, a, list),
-        Phase::Write => written(board, out, e, a, list),
-        Phase::ReadBack => read_back(board, e, a, list),
-        Phase::Wait => waited(board, out, e, clock, wall),
+        Phase::OpenVersion => open_version(board, e, a),
+        Phase::Version => round_version(board, out, e, a, at),
+        Phase::Read => results(board, out, e, a, at),
+        Phase::Describe => descriptions(board, out, e, a),
+        Phase::Write => written(board, out, e, a),
+        Phase::ReadBack => read_back(board, e, a),
+        Phase::Wait => waited(board, out, e, at),
         Phase::Backoff => backed_off(board, out, e),
-        _ => taken(board, out, e, p, clock, wall),
+        _ => taken(board, out, e, p, at),
     }
 }
 
-// A step; a refusal gives its number alone and changes nothing.
-pub fn step(
+// A step; a refusal changes nothing.
+pub fn step<'a>(
     board: &mut [u8],
     out: &mut [u8],
     e: Engine,
-    a: Answer,
-    list: &[u8],
-    clock: f64,
-    wall: i64,
-) -> Said
+    a: Answer<'a>,
+    at: At,
+) -> Result<Said, Refusal>
     requires { IsBoard board.old }
-    ensures { Stepped (step (worker e (board_in board.old)) (at clock wall) (answer a list.now) (length out.old)) result board.old board.new out.old out.new }
+    ensures { Stepped (worker e (board_in board.old)) (step (worker e (board_in board.old)) at (answer a.entry) (length out.old)) result board.old board.new out.old out.new }
 {
-    let n = step_check(board, e, a, list, clock, wall, out.len());
-    if n != 0 {
-        return Said {
-            reply: Reply::refused(n),
-            head: e,
-        };
+    if let Err(refusal) = step_check(board, e, a, at, out.len()) {
+        return Err(refusal);
     }
-    let clocked = with_clock(e, clock);
-    let s = handled(board, out, clocked, e.progress.phase, a, list, clock, wall);
-    finish(board, out, s, clock, wall)
+    let clocked = with_clock(e, at.clock);
+    let s = handled(board, out, clocked, e.progress.phase, a, at);
+    Ok(finish(board, out, s, at))
 }

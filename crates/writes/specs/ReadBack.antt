@@ -1,9 +1,8 @@
 -- Rule 8: what is read after a write.
-use Rattle.std.specs.Prelude.{cond, List, [], ◌∷◌, ℕ, ◌-◌, ltb, get_or, take}
-use Rattle.values.specs.Entry.{is_good, quality_of}
+use Rattle.std.specs.Prelude.{cond, List, [], ◌∷◌, ℕ, ◌-◌, ltb, get_or, take, Ok, Err}
+use Rattle.values.specs.Entry.{TagResult}
 use Rattle.values.specs.declared.value.Value.{Value}
 use Rattle.values.specs.declared.value.Value.TheVariants.{Null}
-use Rattle.values.specs.declared.entry.TagResult.{TagResult}
 use Rattle.lent.specs.Lent.{over_bytes}
 use Rattle.results.specs.Results.{result_count, result_in}
 use Rattle.board.specs.Board.{Board, with_asked, with_back}
@@ -15,7 +14,8 @@ read_back_tags words k = k ∷ cond (ltb 1 (get_or words k 0)) ((get_or words k 
 
 -- Rule 8: the value that was read back, null where the reading is not good
 abbrev pub read_back_value : TagResult → Value
-read_back_value r = cond (is_good (quality_of r.error)) r.value Null
+read_back_value (Ok v) = v
+read_back_value (Err e) = Null
 
 -- the tag's own result is the first; where there is none, the value is null
 abbrev pub read_back_first : List ℕ → Value

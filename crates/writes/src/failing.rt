@@ -11,7 +11,7 @@ use lent::put_tags;
 use queue::list_queued;
 use tags::count;
 
-// No write waits any more; the tags of those that did go into `out`.
+// No write waits any more; the tags of those that did go into `out`. They are listed in an array, since an engine has no heap.
 pub fn fail_writes(b: &mut [u8], out: &mut [u8]) -> usize
     requires { IsBoard b.old }
     ensures { (result ≡ length (queued_tags (board_in b.old))) × (Holds b.new (with_queue (board_in b.old) []) × (out.new ≡ wrote_all out.old (tag_bytes (queued_tags (board_in b.old))))) }

@@ -8,7 +8,7 @@ use board::tag::word_of;
 use board::tag_lists::{clear_asked, push_asked, shorten_asked};
 use board::waiting::put_back;
 use results::result::result_at;
-use values::entry::{TagResult, is_good, quality_of};
+use values::entry::TagResult;
 use values::value::Value;
 
 // The tag written, and for a bit its word where the directory has it, are asked for. `word_of` gives 0 where the tag is
@@ -37,10 +37,9 @@ pub fn keep_back(b: &mut [u8], results: &[u8])
 fn good_value(r: TagResult) -> Value
     ensures { result ≡ read_back_value r }
 {
-    if is_good(quality_of(r.error)) {
-        r.value
-    } else {
-        Value::Null
+    match r {
+        Ok(value) => value,
+        Err(_) => Value::Null,
     }
 }
 

@@ -1,5 +1,4 @@
 use mathlib.Core.Path.{◌≡◌}
-use Prim.Native.Nat.{◌≤◌, ◌-◌}
 use lib.ListN.{length}
 use Rattle.memory.proofs.LoopLaws.{mapped}
 use Rattle.table.specs.Table.{table_in}

@@ -14,6 +14,6 @@ returns c =
     let a = c.args in
     let t = a.t.now in
     let w = get_or (rows_in t) a.k no_row in
-    let v = c.entry_words in
+    let v = c.from in
     table_put t c.put_words.new.t (with_entry_words w 16 v.result) a.k c.put_words.ensures
     ∙ ap (set (table_in t) a.k) (cached_put w (row_long t a.k) v.result a.e v.ensures.0 ∙ rw (← (table_at t a.k)))

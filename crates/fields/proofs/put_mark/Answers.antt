@@ -12,7 +12,7 @@ returns c =
     let a = c.args in
     let t = a.t.now in
     let r = get_or (rows_in t) a.k no_row in
-    let w = c.time_words-w in
+    let w = c.from-w in
     let one = c.put_row_cell in
     let two = c.put_row_cell-2 in
     table_put t two.new.s (set (set r 6 w.result.known) 7 w.result.word) a.k

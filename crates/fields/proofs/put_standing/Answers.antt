@@ -1,4 +1,4 @@
-use mathlib.Core.Path.{◌≡◌, ap, ◌∙◌}
+use mathlib.Core.Path.{ap, ◌∙◌}
 use lib.ListN.{get_or, set}
 use Prim.Native.Nat.{◌<◌}
 use native.Mathlib.Nat.{mod-eq_of_lt}
@@ -13,7 +13,7 @@ use Rattle.fields.proofs.put_standing.Goals as goal
 pub returns : goal.returns
 returns c =
     let a = c.args in
-    let g = c.grace_words-w in
+    let g = c.from-w in
     let added = c.word_of_flag-new in
     let wants = c.word_of_flag in
     let t = a.t.now in

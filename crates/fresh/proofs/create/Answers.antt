@@ -15,6 +15,6 @@ returns c =
     let taken = c.take_all in
     record {
       still = taken.ensures.still;
-      board = made a.names.now a.ends.now a.settings.now a.groups.now (board_in zero.new.b) (board_in keyed.new.b) (board_in worded.new.b) (board_in grouped.new.b) (board_in taken.new.b)
+      board = made a.directory.names.now a.directory.ends.now a.settings.now a.groups.now (board_in zero.new.b) (board_in keyed.new.b) (board_in worded.new.b) (board_in grouped.new.b) (board_in taken.new.b)
           (zero.ensures.board ∙ ap empty_board c.requires.b_value) keyed.ensures.board worded.ensures.board grouped.ensures.board taken.ensures.board;
     }

@@ -12,4 +12,4 @@ returns c =
     let from = c.keys_start-start in
     let to = c.words_start-end in
     let put = c.fill_keys in
-    keys_put a.b.now put.new.keys c.requires from.result to.result from.ensures to.ensures (λ (l : List ℕ). over l (keys_of (names_of a.names.now a.ends.now))) put.auto.keys put.ensures
+    keys_put a.b.now put.new.keys c.requires from.result to.result from.ensures to.ensures (λ (l : List ℕ). over l (keys_of (names_of a.directory.names.now a.directory.ends.now))) put.auto.keys put.ensures

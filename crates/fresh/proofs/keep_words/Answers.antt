@@ -13,4 +13,4 @@ returns c =
     let a = c.args in
     let from = c.words_start-start in
     let put = c.fill_words in
-    words_put a.b.now put.new.words c.requires from.result (length a.b.now) from.ensures (omega (arith, c.requires.0)) (λ (l : List ℕ). over l (words_of (names_of a.names.now a.ends.now))) put.auto.words put.ensures
+    words_put a.b.now put.new.words c.requires from.result (length a.b.now) from.ensures (omega (arith, c.requires.0)) (λ (l : List ℕ). over l (words_of (names_of a.directory.names.now a.directory.ends.now))) put.auto.words put.ensures

@@ -19,7 +19,7 @@ pub returns : goal.returns
 returns c =
     let a = c.args in
     let q = a.q.now in
-    let v = c.value_words-v in
+    let v = c.from-v in
     let i = a.i in
     let small : a.w.tag < 65536 = search rules in
     place_put q c.put_cell-3.new.s i a.w.tag v.result.kind v.result.word (c.put_cell-3.auto.s ∙ c.put_cell-2.auto.s ∙ c.put_cell.auto.s) (omega arith)

@@ -4,7 +4,7 @@ use Rattle.table.specs.Tag.{fresh_tag}
 use Rattle.tags.specs.Lists.{list_in, room}
 use Rattle.lists.specs.Keep.{keep, up_to}
 use lib.ListN.{length, get_or, take}
-use Prim.Native.Nat.{ℕ, ◌≤◌, ◌-◌, min}
+use Prim.Native.Nat.{ℕ, min}
 use mathlib.Core.List.{List}
 use mathlib.Core.Bool.{Bool}
 use mathlib.Core.Path.{◌≡◌}

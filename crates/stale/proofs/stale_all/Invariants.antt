@@ -2,7 +2,6 @@ use Rattle.stale.specs.Stale.{tag_stale}
 use Rattle.table.specs.Table.{table_in}
 use Rattle.memory.proofs.LoopLaws.{mapped}
 use lib.ListN.{length}
-use Prim.Native.Nat.{◌≤◌, ◌-◌}
 use mathlib.Core.Path.{◌≡◌}
 use Rattle.stale.proofs.stale_all.Given as goal
 

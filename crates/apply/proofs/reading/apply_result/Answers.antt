@@ -9,5 +9,5 @@ pub returns-then-is_repeat : goal.returns-then-is_repeat
 returns-then-is_repeat c =
     let a = c.args in
     let tags = table_in a.table.now in
-    let again = applied_again tags a.k (result_in a.results.now a.i) a.start a.t a.polled c.if-polled.true (c.is_repeat.ensures c.if-is_repeat.true) in
+    let again = applied_again tags a.k (result_in a.results.now a.i) a.when.start a.when.t a.when.polled c.if-when.true (c.is_repeat.ensures c.if-is_repeat.true) in
     (c.put_mark.ensures ∙ again.0, again.1)

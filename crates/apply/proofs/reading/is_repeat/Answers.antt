@@ -20,4 +20,4 @@ returns-then-is_good_as c = λ e.
     let kind = c.cell-kind in
     let word = c.cell-word in
     repeated x c.cached_words.result kind.result word.result c.cached_words.ensures (c.is_good_as.ensures c.if-is_good_as.true) (result_in a.results.now a.i)
-    tiered (sym c.is_same_as_itself.ensures ∙ e) (rw (some, kind.ensures, word.ensures)) (rw (some, sym c.cell.ensures ∙ c.if-cell-ne0.false))
+    tiered (sym c.is_same_as_itself.ensures ∙ e) (rw (some, kind.ensures, word.ensures, sym c.cell.ensures ∙ c.if-cell-ne0.false))

@@ -2,6 +2,10 @@
 use Rattle.capi.proofs.Laws.{count_small}
 use native.Mathlib.Omega.{arith}
 use Rattle.checks.proofs.Laws.{write_passed, write-room}
+use Rattle.std.specs.Prelude.{⊤, Result}
+use Rattle.refusals.specs.Refusals.{code}
+use Rattle.refusals.specs.declared.Refusal.{Refusal}
+use Rattle.capi.proofs.Laws.{alien_size, own_size}
 use Rattle.capi.proofs.CallLaws.{alien_call, refused_call, done_call, queued_last}
 use Rattle.checks.specs.Calls.{write_check}
 use Rattle.capi.specs.Calls.{wrote}
@@ -11,19 +15,19 @@ use mathlib.Core.Path.{ap, sym, ◌∙◌}
 use borrow.Author.Rules.{rules}
 use Rattle.capi.proofs.calls.wz_write.Goals as goal
 
-pub returns-then-size_check-ne0 : goal.returns-then-size_check-ne0
-returns-then-size_check-ne0 c = alien_call _ _ _ (λ g. c.if-size_check-ne0.true (c.size_check.ensures ∙ g))
+pub returns-in-Err : goal.returns-in-Err
+returns-in-Err c = alien_call _ _ _ _ _ (alien_size _ _ _ c.size_check.ensures c.in-Err.is) c.number.ensures
 
-pub returns-then-n-ne0 : goal.returns-then-n-ne0
-returns-then-n-ne0 c =
+pub returns-in-Err-write_check : goal.returns-in-Err-write_check
+returns-in-Err-write_check c =
     let a = c.args in
     let bs = a.mem.now in
-    refused_call bs _ _ _ (sym c.size_check.ensures ∙ c.if-size_check-ne0.false) (c.write_check-n.ensures ∙ ap (λ (v : Value). write_check (worker_in bs) a.tag v) c.value_from-value.ensures) c.if-n-ne0.true
+    refused_call bs _ _ _ _ (own_size _ _ _ c.size_check.ensures c.in_default.is) (ap (λ (x : Result ⊤ Refusal). code x) (sym c.in-Err-write_check.is) ∙ c.write_check.ensures ∙ ap (λ (v : Value). write_check (worker_in bs) a.tag v) c.value_from-value.ensures) c.number-in-Err-write_check.ensures
 
 pub overflow_cast-w : goal.overflow_cast-w
 overflow_cast-w c =
     let a = c.args in
-    let p = write_passed (worker_in a.mem.now) a.tag _ (sym c.write_check-n.ensures ∙ c.if-n-ne0.false) in
+    let p = write_passed (worker_in a.mem.now) a.tag _ (sym c.write_check.ensures ∙ ap (λ (x : Result ⊤ Refusal). code x) c.in_default-write_check.is) in
     omega (arith, p, count_small a.mem.now)
 
 pub returns : goal.returns
@@ -31,8 +35,8 @@ returns c =
     let a = c.args in
     let bs = a.mem.now in
     let v = c.value_from-value in
-    let short = write-room (worker_in bs) a.tag _ (sym c.write_check-n.ensures ∙ c.if-n-ne0.false) in
-    done_call bs _ _ _ (sym c.size_check.ensures ∙ c.if-size_check-ne0.false)
-    (sym c.if-n-ne0.false ∙ c.write_check-n.ensures ∙ ap (λ (x : Value). write_check (worker_in bs) a.tag x) v.ensures)
+    let short = write-room (worker_in bs) a.tag _ (sym c.write_check.ensures ∙ ap (λ (x : Result ⊤ Refusal). code x) c.in_default-write_check.is) in
+    done_call bs _ _ _ (own_size _ _ _ c.size_check.ensures c.in_default.is)
+    (ap (λ (x : Result ⊤ Refusal). code x) (sym c.in_default-write_check.is) ∙ c.write_check.ensures ∙ ap (λ (x : Value). write_check (worker_in bs) a.tag x) v.ensures)
     (c.push_write.ensures ∙ queued_last (worker_in bs) _ short ∙ ap (λ (x : Value). wrote (worker_in bs) a.tag x) v.ensures)
     (search rules)

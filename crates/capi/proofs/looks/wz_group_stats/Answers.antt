@@ -1,19 +1,22 @@
 -- `capi::looks::wz_group_stats` meets its contract.
-use mathlib.Core.Path.{sym, ◌∙◌}
-use Prim.Native.Nat.{◌/◌}
+use mathlib.Core.Path.{ap, ◌∙◌}
 use lib.ListN.{length}
 use Rattle.lent.specs.Lent.{cell_bytes, wrote_all}
+use Prim.Native.Nat.{ℕ, ◌/◌}
+use Rattle.shown.specs.Looks.{listed}
 use Rattle.capi.specs.Memory.{worker_in}
 use Rattle.capi.specs.Looks.{group_cells, group_count}
+use Rattle.capi.proofs.Laws.{alien_size, own_size}
 use Rattle.capi.proofs.LookLaws.{list_alien, list_own}
 use Rattle.capi.proofs.looks.wz_group_stats.Goals as goal
 
-pub returns-then-size_check-ne0 : goal.returns-then-size_check-ne0
-returns-then-size_check-ne0 c =
+pub returns-in-Err : goal.returns-in-Err
+returns-in-Err c =
     let mem = c.args.mem.now in
     let out = c.args.out.now in
     let W = worker_in mem in
-    let both = list_alien mem (length out / 40) 16 (group_count W out) out (wrote_all out (cell_bytes (group_cells W))) c.listed.result (λ g. c.if-size_check-ne0.true (c.size_check.ensures ∙ g)) c.listed.ensures in
+    let alone = alien_size _ _ _ c.size_check.ensures c.in-Err.is in
+    let both = list_alien mem (length out / 40) 16 (group_count W out) out (wrote_all out (cell_bytes (group_cells W))) c.listed.result alone.0 (c.listed.ensures ∙ ap (λ (n : ℕ). listed n 0) (c.number.ensures ∙ alone.1)) in
     record { value = both.0; out_after = both.1 }
 
 pub returns : goal.returns
@@ -24,5 +27,5 @@ returns c =
     let W = worker_in mem in
     let call = c.group_stats in
     let same = c.board_of.ensures.1 in
-    let both = list_own mem (length out / 40) 16 (group_count W out) out call.new.out (wrote_all out (cell_bytes (group_cells W))) call.result (sym c.size_check.ensures ∙ c.if-size_check-ne0.false) (rw same at call.ensures.value) (rw same at call.ensures.out_after) in
+    let both = list_own mem (length out / 40) 16 (group_count W out) out call.new.out (wrote_all out (cell_bytes (group_cells W))) call.result (own_size _ _ _ c.size_check.ensures c.in_default.is) (rw same at call.ensures.value) (rw same at call.ensures.out_after) in
     record { value = both.0; out_after = both.1 }

@@ -1,10 +1,6 @@
 -- `capi::whole::step` meets its contract.
-use mathlib.Core.Path.{ap}
-use mir.Val.{SFits}
-use mir.Syntax.{w64}
-use mir.Facts.{to_z-of_z}
 use lib.ListN.{length}
-use Rattle.replies.specs.Worker.{At, at, worker}
+use Rattle.replies.specs.Worker.{worker}
 use Rattle.step_checks.specs.Awaited.{answer}
 use Rattle.worker.specs.Steps.{step}
 use Rattle.capi.specs.Memory.{worker_in}
@@ -30,11 +26,5 @@ unfolding worker_in
 returns c =
     let a = c.args in
     let f = c.step in
-    let bs = a.mem.now in
-    let W = worker a.e (worker_in bs).board in
-    let x = answer a.a a.list.now in
-    let fit : SFits w64 a.wall = search rules in
-    step_put bs f.new.board a.out.now f.new.out f.result
-    (step W (at a.clock _) x (length a.out.now))
-    (step W (at a.clock a.wall) x (length a.out.now))
-    c.requires f.auto.board (ap (λ (t : At). step W t x (length a.out.now)) (ap (at a.clock) (to_z-of_z fit))) f.ensures
+    let W = worker a.e (worker_in a.mem.now).board in
+    step_put a.mem.now f.new.board a.out.now f.new.out W f.result (step W a.at (answer a.a) (length a.out.now)) c.requires f.auto.board f.ensures

@@ -7,7 +7,7 @@ use mir.Syntax.{w64}
 use mir.Facts.{to_z-of_z}
 use Rattle.heads.specs.Stats.{tail_stats}
 use Rattle.engine.specs.Engine.{with_stats}
-use Rattle.replies.specs.Worker.{worker, at}
+use Rattle.replies.specs.Worker.{worker}
 use Rattle.replies.proofs.DoneLaws.{quiet_is}
 use Rattle.cycles.specs.Polling.{polls, elapsed, idle, tail}
 use borrow.Author.Rules.{rules}
@@ -18,9 +18,9 @@ unfolding tail idle
 returns-then-elapsed-p c B =
     let a = c.args in
     let W = worker a.e B in
-    let t = at a.clock a.wall in
-    let stats = tail_stats a.e.stats (elapsed W t) a.e.progress.tick a.wall in
-    let fit : SFits w64 a.wall = search rules in
+    let t = a.at in
+    let stats = tail_stats a.e.stats (elapsed W t) a.e.progress.tick a.at.wall in
+    let fit : SFits w64 a.at.wall = search rules in
     let next : c.with_stats-next.result ≡ with_stats a.e stats =
     c.with_stats-next.ensures
     ∙ ap (with_stats a.e) (c.tail_stats.ensures ∙ ap (tail_stats a.e.stats (elapsed W t) a.e.progress.tick) (to_z-of_z fit)) in
@@ -32,9 +32,9 @@ unfolding tail
 returns c B =
     let a = c.args in
     let W = worker a.e B in
-    let t = at a.clock a.wall in
-    let stats = tail_stats a.e.stats (elapsed W t) a.e.progress.tick a.wall in
-    let fit : SFits w64 a.wall = search rules in
+    let t = a.at in
+    let stats = tail_stats a.e.stats (elapsed W t) a.e.progress.tick a.at.wall in
+    let fit : SFits w64 a.at.wall = search rules in
     let next : c.with_stats-next.result ≡ with_stats a.e stats =
     c.with_stats-next.ensures
     ∙ ap (with_stats a.e) (c.tail_stats.ensures ∙ ap (tail_stats a.e.stats (elapsed W t) a.e.progress.tick) (to_z-of_z fit)) in

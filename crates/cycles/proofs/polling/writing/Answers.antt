@@ -1,13 +1,9 @@
 -- `cycles::polling::writing` meets its contract.
-use mathlib.Core.Path.{◌≡◌, refl, ap, sym, ◌∙◌, subst}
-use lib.IntN.{ℤ}
-use mir.Val.{SFits}
-use mir.Syntax.{w64}
-use mir.Facts.{to_z-of_z}
+use mathlib.Core.Path.{◌≡◌, refl, ap, sym, ◌∙◌}
 use Rattle.std.specs.Prelude.{Some, None}
 use Rattle.board.specs.Board.{Board, board_in}
 use Rattle.queue.specs.Queue.{popped}
-use Rattle.replies.specs.Worker.{worker, at, Done}
+use Rattle.replies.specs.Worker.{worker}
 use Rattle.replies.proofs.DoneLaws.{done_is, wrote_nothing}
 use Rattle.cycles.specs.Polling.{resume, writing_of, writing}
 use Rattle.cycles.proofs.PollingLaws.{none_popped}
@@ -19,8 +15,7 @@ returns-in_default c =
     let a = c.args in
     let B = board_in a.board.now in
     let W = worker a.e B in
-    let t = at a.clock a.wall in
-    let fit : SFits w64 a.wall = c.ranges.wall in
+    let t = a.at in
     let p = c.pop_write in
     let y = c.resume in
     let none : popped B.queue ≡ None = sym p.ensures.0 ∙ c.in_default.is in
@@ -28,7 +23,7 @@ returns-in_default c =
     let next = worker a.e (board_in p.new.b) in
     done_is (resume next t a.after) (writing W t a.after) y.result y.new.board a.out.now y.new.out
     (ap (λ (X : Board). resume (worker a.e X) t a.after) same ∙ sym (ap (writing_of W t a.after) none))
-    (subst (λ (z : ℤ). Done (resume next (at a.clock z) a.after) y.result y.new.board a.out.now y.new.out) (to_z-of_z fit) y.ensures)
+    y.ensures
 
 pub returns : goal.returns
 unfolding writing_of
@@ -36,7 +31,7 @@ returns c =
     let a = c.args in
     let B = board_in a.board.now in
     let W = worker a.e B in
-    let t = at a.clock a.wall in
+    let t = a.at in
     let p = c.pop_write in
     let w = c.in-Some.w in
     let one : popped B.queue ≡ Some w = sym p.ensures.0 ∙ c.in-Some.is in
@@ -44,7 +39,7 @@ returns c =
     (record {
       head_is = simp (c.with_progress.ensures, c.with_writing.ensures);
       board_is = p.ensures.1.board;
-      reply_is = c.write.ensures;
+      reply_is = refl;
       out_is = sym (wrote_nothing a.out.now);
       silent = λ h. refl;
     })

@@ -9,5 +9,5 @@ pub returns : goal.returns
 returns c =
     let small : c.args.x.count < 65536 = search rules in
     engine_coded c.args.x _ _ _ _ _ _ _ _ _ _ _ _ _ _ _ _ _ _ _ _ _ _ _ _ _ _
-    c.word_of_float.ensures.back c.word_of_float-2.ensures.back c.word_of_float-3.ensures.back c.time_words-last.ensures refl
-    c.word_of_float-4.ensures.back (mod-eq_of_lt small) c.link_words-link.ensures c.progress_words-progress.ensures c.stats_words-stats.ensures
+    c.word_of_float.ensures.back c.word_of_float-2.ensures.back c.word_of_float-3.ensures.back c.from-last.ensures refl
+    c.word_of_float-4.ensures.back (mod-eq_of_lt small) c.from-link.ensures c.from-progress.ensures c.from-stats.ensures

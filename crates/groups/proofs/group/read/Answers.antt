@@ -1,10 +1,7 @@
+use mathlib.Core.Path.{refl}
 use Rattle.groups.specs.Groups.{group_read}
 use Rattle.groups.proofs.group.read.Goals as goal
 
-pub returns-then-first : goal.returns-then-first
+pub returns : goal.returns
 unfolding group_read
-returns-then-first c = simp c.if-first.true
-
-pub returns-else-first : goal.returns-else-first
-unfolding group_read
-returns-else-first c = simp c.if-first.false
+returns c = refl

@@ -8,7 +8,7 @@ returns c =
     record {
       head_is = simp (c.phased.ensures, c.with_link-next.ensures, c.with_state.ensures);
       board_is = f.1.0.board;
-      reply_is = simp (c.phased.ensures, c.listed.ensures, f.0);
+      reply_is = simp (c.phased.ensures, f.0);
       out_is = f.1.1;
       silent = λ h. absurd (false≢true h);
     }

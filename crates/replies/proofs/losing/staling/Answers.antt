@@ -42,7 +42,7 @@ returns c =
     (record {
       head_is = simp c.phased.ensures;
       board_is = m.ensures.holds.board;
-      reply_is = simp (c.phased.ensures, c.listed.ensures, m.ensures.count_is);
+      reply_is = simp (c.phased.ensures, m.ensures.count_is);
       out_is = m.ensures.out_is;
       silent = λ h. absurd (false≢true h);
     })

@@ -27,7 +27,7 @@ returns c =
     (record {
       head_is = simp c.phased.ensures;
       board_is = refl;
-      reply_is = simp (c.phased.ensures, c.listed.ensures);
+      reply_is = simp c.phased.ensures;
       out_is = sym (wrote_nothing a.out.now);
       silent = λ h. refl;
     })

@@ -48,5 +48,5 @@ loop-i-init c =
     let a = c.args in
     let given = length_given a.s.now in
     let places = length-groups a.c.now in
-    let room = c.room_of-room.ensures in
+    let room = c.places-room.ensures in
     (elim c.if-given-room.branch [ then-given-room w ↦ omega (arith, w.n-is) | else-given-room w ↦ omega (arith, w.n-is) ], (refl, paste-zero (group_places a.c.now) 0 (given_groups a.s.now)))

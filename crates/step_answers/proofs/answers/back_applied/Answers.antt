@@ -6,13 +6,16 @@ use lib.Dec.{eqb}
 use lib.ListN.{length}
 use lib.IntN.{ℤ}
 use mir.Syntax.{w64}
+use mir.Val.{SFits}
+use borrow.Author.Rules.{rules}
 use mir.ValLaws.{to_z-of_z}
 use Rattle.board.specs.Board.{Board, board_in}
 use Rattle.lent.specs.Lent.{cell_bytes}
 use Rattle.readings.specs.Changes.{Changing, applied_to, changes_in}
 use Rattle.heads.specs.declared.progress.Phase.TheVariants.{BackTold}
 use Rattle.replies.specs.Reply as reply
-use Rattle.replies.specs.Worker.{worker, at, phased, said_in, tell}
+use Rattle.replies.specs.declared.response.Response.TheVariants as response
+use Rattle.replies.specs.Worker.{worker, phased, said_in, tell}
 use Rattle.replies.specs.Losing.{is_empty}
 use Rattle.replies.proofs.DoneLaws.{done_is}
 use Rattle.cycles.specs.Polling.{writing}
@@ -27,12 +30,12 @@ returns-then-n-eq0 c =
     let a = c.args in
     let B = board_in a.board.now in
     let W = worker a.e B in
-    let t = at a.clock a.wall in
-    let fit = c.ranges.wall in
-    let C = applied_to B B.back a.clock a.wall false in
+    let t = a.at in
+    let fit : SFits w64 a.at.wall = search rules in
+    let C = applied_to B B.back a.at.clock a.at.wall false in
     let y = c.apply_back-n in
     let made : Changing C y.result y.new.b a.out.now y.new.out =
-    subst (λ (z : ℤ). Changing (applied_to B B.back a.clock z false) y.result y.new.b a.out.now y.new.out) (to_z-of_z w64 a.wall fit) y.ensures in
+    subst (λ (z : ℤ). Changing (applied_to B B.back a.at.clock z false) y.result y.new.b a.out.now y.new.out) (to_z-of_z w64 a.at.wall fit) y.ensures in
     let N = worker a.e C.board in
     let test : is_empty C.changes ≡ true = sym (empty_is C.changes) ∙ ap (λ (n : ℕ). eqb n 0) (sym made.count_is) ∙ eq-eqb _ _ c.if-n-eq0.true in
     let after = a.e.progress.after in
@@ -42,7 +45,7 @@ returns-then-n-eq0 c =
     let here : writing (worker a.e M) t after ≡ back_applied W t =
     ap (λ (x : Board). writing (worker a.e x) t after) made.holds.board ∙ ap (λ (b : Bool). cond b on told) (sym test) in
     done_from (back_applied W t) _ _ _ _ _ (no_changes C.board C.changes _ _ test made.out_is)
-    (done_is _ (back_applied W t) _ _ _ _ (ap (λ (z : ℤ). writing (worker a.e M) (at a.clock z) after) (to_z-of_z w64 a.wall fit) ∙ here) c.writing.ensures)
+    (done_is _ (back_applied W t) _ _ _ _ here c.writing.ensures)
 
 pub returns : goal.returns
 unfolding back_applied
@@ -50,16 +53,15 @@ returns c =
     let a = c.args in
     let B = board_in a.board.now in
     let W = worker a.e B in
-    let t = at a.clock a.wall in
-    let fit = c.ranges.wall in
-    let C = applied_to B B.back a.clock a.wall false in
+    let t = a.at in
+    let fit : SFits w64 a.at.wall = search rules in
+    let C = applied_to B B.back a.at.clock a.at.wall false in
     let y = c.apply_back-n in
     let made : Changing C y.result y.new.b a.out.now y.new.out =
-    subst (λ (z : ℤ). Changing (applied_to B B.back a.clock z false) y.result y.new.b a.out.now y.new.out) (to_z-of_z w64 a.wall fit) y.ensures in
+    subst (λ (z : ℤ). Changing (applied_to B B.back a.at.clock z false) y.result y.new.b a.out.now y.new.out) (to_z-of_z w64 a.at.wall fit) y.ensures in
     let N = worker a.e C.board in
     let test : is_empty C.changes ≡ false = sym (empty_is C.changes) ∙ ap (λ (n : ℕ). eqb n 0) (sym made.count_is) ∙ ne_eqb _ _ c.if-n-eq0.false in
     let on = writing N t a.e.progress.after in
     let told = tell (phased N BackTold) (reply.values (length C.changes)) (cell_bytes (changes_in C.board C.changes)) in
-    let r : c.listed.result ≡ reply.values (length C.changes) = c.listed.ensures ∙ ap (λ (n : ℕ). reply.values n) made.count_is in
     done_is told (back_applied W t) _ _ _ _ (ap (λ (b : Bool). cond b on told) (sym test))
-    (told_done a.e C.board BackTold (reply.values (length C.changes)) (cell_bytes (changes_in C.board C.changes)) _ _ _ _ (c.phased.ensures ∙ ap (said_in a.e BackTold) r) made.holds.board made.out_is refl)
+    (told_done a.e C.board BackTold (response.Values (length C.changes)) (cell_bytes (changes_in C.board C.changes)) _ _ _ _ (c.phased.ensures ∙ ap (λ (n : ℕ). said_in a.e BackTold (response.Values n)) made.count_is) made.holds.board made.out_is refl)

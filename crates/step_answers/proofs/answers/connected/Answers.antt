@@ -26,7 +26,7 @@ returns c B =
     let test : is_state e.link Connected ≡ false = sym c.is_state.ensures ∙ c.if-is_state.false in
     record {
       head_is = simp (test, c.phased.ensures, c.with_link-next.ensures, c.with_state.ensures, c.with_attempt-link.ensures);
-      reply_is = simp (test, c.phased.ensures, c.status.ensures);
+      reply_is = simp (test, c.phased.ensures);
       board_kept = simp test;
       nothing = simp test;
     }

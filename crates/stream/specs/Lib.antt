@@ -1,0 +1,2 @@
+-- What a listing keeps of its calls.
+pub mod Calls
