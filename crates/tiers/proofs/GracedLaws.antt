@@ -108,11 +108,11 @@ module _ (T : Table) (g : Graced T) where
     pub graced_change : (after : ℕ) → (is_some (tag_at T k).grace) ≡ true → Graced (change_grace T k after)
     graced_change after on =
         let x = with_after (tag_at T k) after in
-        record { once = replaced x T.graces (g.once k ∙ ap (λ (b : Bool). cond b 1 0) (sym (still_some (tag_at T k).grace))) (λ j d. refl); enough = rw (length-set T.tags k x) g.enough }
+        record { once = replaced x T.graces (g.once k ∙ ap (λ (b : Bool). cond b 1 0) (on ∙ sym (now_some (tag_at T k).grace))) (λ j d. refl); enough = rw (length-set T.tags k x) g.enough }
       where
-        still_some : (h : Option Grace) → is_some (followed h after) ≡ is_some h
-        still_some None = refl
-        still_some (Some h) = refl
+        now_some : (h : Option Grace) → is_some (followed h after) ≡ true
+        now_some None = refl
+        now_some (Some h) = refl
 
     -- Rule 5: a tier call.
     pub graced_tier : (tier : ℕ) (grace clock : Float) → Graced (set_tier T k tier grace clock)
