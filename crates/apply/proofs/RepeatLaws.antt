@@ -2,8 +2,9 @@
 use mathlib.Core.Path.{◌≡◌, refl, ap, sym, ◌∙◌}
 use mathlib.Core.Bool.{Bool, true, false, cond}
 use Prim.Native.Nat.{ℕ}
-use borrow.Author.Tests.{eq-eqb}
-use lib.Dec.{eqb}
+use native.Mathlib.Omega.{arith}
+use borrow.Author.Tests.{eq-eqb, ne_eqb}
+use lib.Dec.{eqb, ltb}
 use lib.IntN.{ℤ, pos, negsuc}
 use mir.Val.{to_z}
 use mir.Syntax.{w64}
@@ -20,6 +21,9 @@ use Rattle.apply.specs.Apply.{is_same_as}
 use Rattle.apply.specs.Steps.{GoodAs, Repeated}
 use Rattle.values.specs.declared.entry.Entry.{Entry}
 
+pub not_so : {A : Type 0} → false ≡ true → A
+not_so e = absurd (let z : ◌≡◌ {A = ℕ} 0 1 = cc in omega arith)
+
 -- a value that is no float is the same as itself
 own_same : (b c p : Bool) (n : ℤ) → same_value (cond b (Flag p) (cond c (Int n) Null)) (cond b (Flag p) (cond c (Int n) Null)) ≡ true
 own_same true c true n = refl
@@ -27,6 +31,9 @@ own_same true c false n = refl
 own_same false true p (pos n) = eq-eqb n n refl
 own_same false true p (negsuc n) = eq-eqb n n refl
 own_same false false p n = refl
+
+pub no_float : (kind word : ℕ) → (kind ≡ 3 → ⊥) → same_value (value_from kind word) (value_from kind word) ≡ true
+no_float kind word h = rw (ne_eqb kind 3 h) (own_same (eqb kind 1) (eqb kind 2) (ltb 0 word) (to_z w64 word))
 
 module _ (x : Tag) (w : EntryWords) (kind word : ℕ) (held : held_from w ≡ x.cached) (good : GoodAs w kind word) where
   good_held : x.cached ≡ Some (record { value = value_from kind word; quality = Good; t = to_z w64 w.t; error = None })

@@ -89,7 +89,7 @@ fn publish(table: &mut [u8], k: usize, e: Entry, polled: bool) -> bool
 }
 
 // A reading of the tag k. A tag without a tier left the table while it was read, and is skipped.
-fn apply_at(table: &mut [u8], k: usize, r: TagResult, when: ReadAt) -> bool
+pub fn apply_at(table: &mut [u8], k: usize, r: TagResult, when: ReadAt) -> bool
     ensures { (table_in table.new ≡ applied_at (table_in table.old) k r when.start when.t when.polled) × (result ≡ sent_at (table_in table.old) k r when.t when.polled) }
 {
     if tier_of(table, k) == 0 {

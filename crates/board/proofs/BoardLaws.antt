@@ -23,12 +23,16 @@ use Rattle.queue.specs.Queue.{queue_in, queue_room, write_room}
 use Rattle.queue.specs.declared.Write.{Write}
 use Rattle.layout.specs.Parts.{part, start_of, size_of, total, parts, replaced}
 use Rattle.layout.proofs.PartLaws.{part_length, part_between, parts_within, put_part}
-use Rattle.board.specs.Layout.{sizes, back, recorded, configured, queue, groups, table, order, graces, asked, keys, words, tags_for, tags_in, IsBoard, parts_in}
+use Rattle.board.specs.Layout.{sizes, back, recorded, configured, queue, groups, table, order, graces, asked, keys, words, board_size, tag_size, tags_for, tags_in, IsBoard, parts_in}
 use Rattle.board.specs.Board.{Board, Holds, tag_at, board_from, board_in, with_records, with_tag, with_order, with_graces, with_words, with_asked, with_group_rows, with_recorded, with_keys, with_configured, with_queue, with_back}
 
 -- memory of the same length is a board too
 pub still_board : (new old : List ℕ) → length new ≡ length old → IsBoard old → IsBoard new
 still_board new old e h = (omega arith, (omega arith, omega arith))
+
+-- each tag adds as many bytes as the first
+pub size_grows : (c : ℕ) → board_size c ≡ board_size 0 + tag_size * c
+size_grows c = omega arith
 
 -- how long part i is
 pub size_of_part : (i : ℕ) (bs : List ℕ) → IsBoard bs → length (parts_in bs i) ≡ size_of (sizes (tags_in bs)) i
@@ -108,6 +112,10 @@ unfolding board_in board_from
 back_read bs l e = e
 
 -- the lists name tags below 65536
+pub order_small : (bs : List ℕ) (i : ℕ) → get_or (board_in bs).table.order i 0 < 65536
+unfolding board_in board_from
+order_small bs i = list_small (parts_in bs order) i
+
 pub asked_small : (bs : List ℕ) (i : ℕ) → get_or (board_in bs).asked i 0 < 65536
 unfolding board_in board_from
 asked_small bs i = list_small (parts_in bs asked) i

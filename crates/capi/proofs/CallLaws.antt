@@ -33,6 +33,7 @@ use Rattle.replies.specs.declared.reply.Reply.{Reply}
 use Rattle.replies.specs.declared.response.Said.{Said}
 use Rattle.step_checks.specs.Awaited.{Answer}
 use Rattle.worker.specs.Steps.{step, Stepped as StepDone}
+use Rattle.worker.proofs.StepLaws.{left_same}
 use Rattle.capi.specs.Memory.{head_size, memory_size, not_an_engine, size_check, IsEngine, board_bytes, worker_in, Called}
 use Rattle.capi.specs.Creation.{creation_answer, fresh_worker, Created}
 use Rattle.capi.proofs.Laws.{number_some, size-right, board_put}
@@ -177,7 +178,17 @@ module _ (bs new out out' : List ℕ) (e : Engine) (at : At) (a : Answer) (h : I
   same : step W at a (length out) ≡ T
   same = ap (λ (x : Engine). step (worker x (worker_in bs).board) at a (length out)) head
 
-  -- a refused step leaves the engine as it was
+  -- a refused step leaves the engine as it was, whatever its number
+  pub refused_step_by : (x : Reply) → x ≡ T.reply → out' ≡ wrote_all out T.bytes → (x.code ≡ 0 → ⊥) → (new ≡ bs) × (out' ≡ out) → Stepped bs new x out out' T
+  refused_step_by x is wrote z k = record {
+    alien = λ g. absurd (g h);
+    reply_is = λ g. is;
+    left_is = λ g. ap worker_in k.0 ∙ sym (left_same (worker_in bs) at a (length out) (ap (λ (r : Reply). eqb r.code 0) (sym is) ∙ ne_eqb _ _ z));
+    out_is = λ g. wrote;
+    kept = λ g. k;
+    long = ap (λ (l : List ℕ). length l) k.0;
+  }
+
   pub refused_step : (r : Refusal) (x : Reply) → SteppedBoard W (step W at a (length out)) (Err r) bs new out out' → x ≡ reply.refused (number r) → Stepped bs new x out out' T
   unfolding SteppedBoard
   refused_step r x d is =

@@ -7,8 +7,8 @@ use native.Mathlib.Nat.{not-suc-le-zero}
 use native.Mathlib.Numerals.{add-one}
 use native.Mathlib.Omega.{arith}
 use lib.Dec.{ltb}
-use lib.ListN.{length, get_or, length-append, get_or-append}
-use lib.Seq.{get_or_at}
+use lib.ListN.{length, get_or, take, length-append, get_or-append}
+use lib.Seq.{take_all, get_or_at}
 use borrow.Author.Tests.{ltb-true, ltb-false}
 use Rattle.memory.specs.Cells.{cells_in}
 use Rattle.names.specs.Directory.{max_names}
@@ -35,6 +35,10 @@ unfolding change_in
 change_read cells i tag held kind word t error message a b c d e f g =
     let at : (j k : ℕ) → j ≡ k → get_or cells j 0 ≡ get_or cells k 0 = λ j k p. ap (λ (m : ℕ). get_or cells m 0) p in
     rw (a, b, c ∙ at (9 * i + 2) (9 * i + 1 + 1) (omega arith), d ∙ at (9 * i + 3) (9 * i + 1 + 2) (omega arith), e ∙ at (9 * i + 4) (9 * i + 1 + 3) (omega arith), f ∙ at (9 * i + 5) (9 * i + 1 + 4) (omega arith), g ∙ at (9 * i + 6) (9 * i + 1 + 5) (omega arith))
+
+-- all of them, as the first of them
+pub told_whole : (list : List ℕ) (n : ℕ) → take (min n max_names) (told list n) ≡ told list n
+told_whole list n = take_all (min n max_names) (told list n) (omega (arith, length_changes (cells_in list) (min n max_names)))
 
 -- record i is the change of cells 9i to 9i + 8
 changes_at : (cells : List ℕ) (n i : ℕ) (d : Change) → i < n → get_or (changes_from cells n) i d ≡ change_in cells i

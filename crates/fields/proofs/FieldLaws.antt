@@ -1,21 +1,23 @@
 -- A row with some cells replaced holds the tag with that part replaced.
 use mathlib.Core.Path.{◌≡◌, refl, ap, subst}
 use mathlib.Core.List.{List}
-use Prim.Native.Nat.{ℕ, zero, suc, ◌%◌}
-use native.Mathlib.Omega.{arith}
+use Prim.Native.Nat.{ℕ, ◌%◌}
 use borrow.Author.Tests.{ne_eqb}
 use lib.Dec.{ltb}
 use lib.Ieee.{binary64, of_bits}
-use lib.ListN.{length, set}
+use lib.ListN.{length, get_or, set}
 use Rattle.memory.proofs.RowLaws.{spread, spread_is}
 use Rattle.words.specs.Time.{time_from}
 use Rattle.table.specs.Row.{grace_from, description_from, tag_from}
 use Rattle.table.specs.Table.{with_grace, with_last, with_mark, with_added, with_wants, with_description, followed, with_after, with_standing, without_last}
 
 -- words of a grace with another tier following hold that grace so
-grace_followed : (on deadline after v : ℕ) → grace_from on deadline v ≡ followed (grace_from on deadline after) (v % 256)
-grace_followed zero deadline after v = refl
-grace_followed (suc on) deadline after v = rw (ne_eqb (suc on) 0 (λ e. omega arith))
+grace_followed : (on deadline after v : ℕ) → (on ≡ 0 → ⊥) → grace_from on deadline v ≡ followed (grace_from on deadline after) (v % 256)
+grace_followed on deadline after v in_grace = rw (ne_eqb on 0 in_grace)
+
+-- words of a grace that begins where there was none
+grace_begun : (on deadline after v : ℕ) → on ≡ 0 → grace_from 1 0 v ≡ followed (grace_from on deadline after) (v % 256)
+grace_begun on deadline after v none = rw none
 
 module _ (w : List ℕ) (h : length w ≡ 32) where
   pub added_put : (v : ℕ) → tag_from (set w 8 v) ≡ with_added (tag_from w) (ltb 0 v)
@@ -38,11 +40,17 @@ module _ (w : List ℕ) (h : length w ≡ 32) where
   unfolding tag_from spread
   description_put v = subst (λ (r : List ℕ). tag_from (set r 10 v) ≡ with_description (tag_from r) (description_from v)) (spread_is 32 w h) refl
 
-  pub after_put : (v : ℕ) → tag_from (set w 3 v) ≡ with_after (tag_from w) (v % 256)
+  pub after_put : (v : ℕ) → (get_or w 1 0 ≡ 0 → ⊥) → tag_from (set w 3 v) ≡ with_after (tag_from w) (v % 256)
   unfolding tag_from spread
   after_put v =
-      subst (λ (r : List ℕ). tag_from (set r 3 v) ≡ with_after (tag_from r) (v % 256)) (spread_is 32 w h)
-      (ap (with_grace (tag_from (spread 32 w))) (grace_followed _ _ _ v))
+      subst (λ (r : List ℕ). (get_or r 1 0 ≡ 0 → ⊥) → tag_from (set r 3 v) ≡ with_after (tag_from r) (v % 256)) (spread_is 32 w h)
+      (λ in_grace. ap (with_grace (tag_from (spread 32 w))) (grace_followed _ _ _ v in_grace))
+
+  pub after_begun : (v : ℕ) → get_or w 1 0 ≡ 0 → tag_from (set (set (set w 1 1) 2 0) 3 v) ≡ with_after (tag_from w) (v % 256)
+  unfolding tag_from spread
+  after_begun v =
+      subst (λ (r : List ℕ). get_or r 1 0 ≡ 0 → tag_from (set (set (set r 1 1) 2 0) 3 v) ≡ with_after (tag_from r) (v % 256)) (spread_is 32 w h)
+      (λ none. ap (with_grace (tag_from (spread 32 w))) (grace_begun _ _ _ v none))
 
   pub standing_put : (tier on deadline after added wants : ℕ)
       → tag_from (set (set (set (set (set (set w 0 tier) 1 on) 2 deadline) 3 after) 8 added) 9 wants)

@@ -125,9 +125,13 @@ pub fn forget_last(t: &mut [u8], k: usize)
     put_row_cell(t, k, 4, 0);
 }
 
-// A tag in grace: another tier follows it.
+// The tag is in grace, and a tier follows it.
 pub fn put_after(t: &mut [u8], k: usize, after: u8)
     ensures { table_in t.new ≡ set (table_in t.old) k (with_after (get_or (table_in t.old) k fresh_tag) after) }
 {
+    if row_cell(t, k, 1) == 0 {
+        put_row_cell(t, k, 1, 1);
+        put_row_cell(t, k, 2, 0);
+    }
     put_row_cell(t, k, 3, after as u64);
 }

@@ -3,7 +3,7 @@ use mathlib.Core.Path.{◌≡◌, refl, ap, sym, ◌∙◌}
 use mathlib.Core.Logic.{◌≢◌}
 use mathlib.Core.Bool.{Bool, true, false, cond, true≢false}
 use mathlib.Core.List.{List, [], ◌∷◌}
-use Prim.Native.Nat.{ℕ, suc, ◌+◌, ◌*◌, ◌≤◌, ◌<◌}
+use Prim.Native.Nat.{ℕ, suc, ◌+◌, ◌*◌, ◌/◌, ◌≤◌, ◌<◌}
 use native.Mathlib.Numerals.{add-one}
 use native.Mathlib.Omega.{arith}
 use borrow.Author.Tests.{eq-eqb, eqb-true, ne_eqb, lt-ltb, le-ltb}
@@ -21,30 +21,43 @@ use Rattle.frames.specs.declared.answer.Difference.TheVariants.{Cell, Malformed}
 
 module _ (numbers recorded : List ℕ) (i : ℕ) where
   cells_at : i < length numbers
-      → cells_from i (drop i numbers) recorded ≡ cond (eqb (get_or numbers i 0) (eight_at recorded (8 * i))) (cells_from (suc i) (drop (suc i) numbers) recorded) (Err (Cell i (get_or numbers i 0) (eight_at recorded (8 * i))))
+      → cells_from i (drop i numbers) recorded ≡ cond (ltb i (length recorded / 8)) (cond (eqb (get_or numbers i 0) (eight_at recorded (8 * i))) (cells_from (suc i) (drop (suc i) numbers) recorded) (Err (Cell i (get_or numbers i 0) (eight_at recorded (8 * i))))) (Err Malformed)
   unfolding cells_from
   cells_at h = rw (drop-cons numbers i 0 h) refl
 
+  -- a number of which none is recorded
+  pub cells_cut : i < length numbers → length recorded / 8 ≤ i → cells_from i (drop i numbers) recorded ≡ Err Malformed
+  cells_cut h k = cells_at h ∙ rw (le-ltb i (length recorded / 8) k) refl
+
+  cells_beside : i < length numbers → i < length recorded / 8
+      → cells_from i (drop i numbers) recorded ≡ cond (eqb (get_or numbers i 0) (eight_at recorded (8 * i))) (cells_from (suc i) (drop (suc i) numbers) recorded) (Err (Cell i (get_or numbers i 0) (eight_at recorded (8 * i))))
+  cells_beside h k = cells_at h ∙ rw (lt-ltb i (length recorded / 8) k) refl
+
   -- a number as recorded
-  pub cells_same : (r : ℕ) → r ≡ eight_at recorded (8 * i) → i < length numbers → get_or numbers i 0 ≡ r → cells_from i (drop i numbers) recorded ≡ cells_from (i + 1) (drop (i + 1) numbers) recorded
-  cells_same r p h e =
-      cells_at h ∙ ap (λ (t : Bool). cond t (cells_from (suc i) (drop (suc i) numbers) recorded) (Err (Cell i (get_or numbers i 0) (eight_at recorded (8 * i))))) (eq-eqb _ _ (e ∙ p))
+  pub cells_same : (r : ℕ) → r ≡ eight_at recorded (8 * i) → i < length numbers → i < length recorded / 8 → get_or numbers i 0 ≡ r
+      → cells_from i (drop i numbers) recorded ≡ cells_from (i + 1) (drop (i + 1) numbers) recorded
+  cells_same r p h k e =
+      cells_beside h k ∙ ap (λ (t : Bool). cond t (cells_from (suc i) (drop (suc i) numbers) recorded) (Err (Cell i (get_or numbers i 0) (eight_at recorded (8 * i))))) (eq-eqb _ _ (e ∙ p))
       ∙ ap (λ (j : ℕ). cells_from j (drop j numbers) recorded) (sym (add-one i))
 
   -- the first that is not
-  pub cells_other : (r : ℕ) → r ≡ eight_at recorded (8 * i) → i < length numbers → get_or numbers i 0 ≢ r → cells_from i (drop i numbers) recorded ≡ Err (Cell i (get_or numbers i 0) r)
-  cells_other r p h e =
-      cells_at h ∙ ap (λ (t : Bool). cond t (cells_from (suc i) (drop (suc i) numbers) recorded) (Err (Cell i (get_or numbers i 0) (eight_at recorded (8 * i))))) (ne_eqb _ _ (λ q. e (q ∙ sym p)))
+  pub cells_other : (r : ℕ) → r ≡ eight_at recorded (8 * i) → i < length numbers → i < length recorded / 8 → get_or numbers i 0 ≢ r
+      → cells_from i (drop i numbers) recorded ≡ Err (Cell i (get_or numbers i 0) r)
+  cells_other r p h k e =
+      cells_beside h k ∙ ap (λ (t : Bool). cond t (cells_from (suc i) (drop (suc i) numbers) recorded) (Err (Cell i (get_or numbers i 0) (eight_at recorded (8 * i))))) (ne_eqb _ _ (λ q. e (q ∙ sym p)))
       ∙ ap (λ (m : ℕ). Err (Cell i (get_or numbers i 0) m)) (sym p)
 
   -- none is left
-  pub cells_end : length numbers ≤ i → cells_from i (drop i numbers) recorded ≡ Ok tt
+  cells_end : length numbers ≤ i → cells_from i (drop i numbers) recorded ≡ cond (eqb (length recorded / 8) i) (Ok tt) (Err Malformed)
   unfolding cells_from
   cells_end h = rw (drop_all i numbers h) refl
 
--- as many are recorded as there are
-pub numbers_long : (numbers recorded : List ℕ) → length recorded ≡ 8 * length numbers → compare_numbers numbers recorded ≡ cells_from 0 numbers recorded
-numbers_long numbers recorded e = ap (λ (t : Bool). cond t (cells_from 0 numbers recorded) (Err Malformed)) (eq-eqb _ _ e)
+  pub cells_all : length numbers ≤ i → length recorded / 8 ≡ i → cells_from i (drop i numbers) recorded ≡ Ok tt
+  cells_all h e = cells_end h ∙ rw (eq-eqb (length recorded / 8) i e) refl
+
+  -- and more were recorded
+  pub cells_more : length numbers ≤ i → length recorded / 8 ≢ i → cells_from i (drop i numbers) recorded ≡ Err Malformed
+  cells_more h e = cells_end h ∙ rw (ne_eqb (length recorded / 8) i e) refl
 
 pub parting_within : (a b : List ℕ) (i : ℕ) → parting i a b ≤ i + length b
 unfolding parting

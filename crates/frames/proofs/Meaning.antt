@@ -3,7 +3,7 @@
 use mathlib.Core.Path.{◌≡◌, refl, sym, ◌∙◌, ap}
 use mathlib.Core.Bool.{Bool, true, false, cond}
 use mathlib.Core.List.{List, [], ◌∷◌}
-use Prim.Native.Nat.{ℕ, zero, suc, ◌+◌, ◌*◌, ◌≤◌, ◌<◌}
+use Prim.Native.Nat.{ℕ, zero, suc, ◌+◌, ◌*◌, ◌/◌, ◌≤◌, ◌<◌}
 use native.Mathlib.Nat.{add-zero}
 use native.Mathlib.Omega.{arith}
 use borrow.Author.Tests.{eqb-true, ltb-false}
@@ -58,9 +58,23 @@ pub cells_same : (numbers recorded : List ℕ) (i k : ℕ) → cells_from i numb
 unfolding cells_from
 cells_same [] recorded i k e h = absurd (omega arith)
 cells_same (n ∷ numbers) recorded i zero e h =
-    let here = same (eqb n (eight_at recorded (8 * i))) _ _ e in
+    let whole = same (ltb i (length recorded / 8)) _ _ e in
+    let here = same (eqb n (eight_at recorded (8 * i))) _ _ whole.1 in
     ap (λ (j : ℕ). eight_at recorded (8 * j)) (add-zero i) ∙ sym (eqb-true _ _ here.0)
 cells_same (n ∷ numbers) recorded i (suc k) e h =
-    let later = same (eqb n (eight_at recorded (8 * i))) _ _ e in
+    let whole = same (ltb i (length recorded / 8)) _ _ e in
+    let later = same (eqb n (eight_at recorded (8 * i))) _ _ whole.1 in
     let place : i + suc k ≡ suc i + k = omega arith in
     ap (λ (j : ℕ). eight_at recorded (8 * j)) place ∙ cells_same numbers recorded (suc i) k later.1 (omega arith)
+
+-- and as many are recorded as there are
+pub cells_many : (numbers recorded : List ℕ) (i : ℕ) → cells_from i numbers recorded ≡ Ok tt → length recorded / 8 ≡ i + length numbers
+unfolding cells_from
+cells_many [] recorded i e =
+    let end = same (eqb (length recorded / 8) i) _ _ e in
+    eqb-true _ _ end.0 ∙ sym (add-zero i)
+cells_many (n ∷ numbers) recorded i e =
+    let whole = same (ltb i (length recorded / 8)) _ _ e in
+    let later = same (eqb n (eight_at recorded (8 * i))) _ _ whole.1 in
+    let place : suc i + length numbers ≡ i + suc (length numbers) = omega arith in
+    cells_many numbers recorded (suc i) later.1 ∙ place

@@ -1,5 +1,5 @@
 -- What a call answered, held to what was recorded: the first difference, if there is one.
-use Rattle.std.specs.Prelude.{⊤, ℕ, suc, ◌+◌, ◌*◌, List, [], ◌∷◌, cond, eqb, ltb, length, get_or, take, drop, Result, Ok, Err}
+use Rattle.std.specs.Prelude.{⊤, ℕ, suc, ◌+◌, ◌*◌, ◌/◌, List, [], ◌∷◌, cond, eqb, ltb, length, get_or, take, drop, Result, Ok, Err}
 use Rattle.frames.specs.Numbers.{four_at, eight_at}
 use Rattle.frames.specs.Compare.{parting, unlike}
 use Rattle.frames.specs.declared.answer.Difference.{Difference}
@@ -9,14 +9,16 @@ use Rattle.frames.specs.declared.answer.Difference.TheVariants.{Cell, Byte, Malf
 abbrev pub before : ℕ
 before = 0xa5
 
--- the numbers from the one at i on, each beside the eight bytes that were recorded of it
+-- the numbers from the one at i on, each beside the eight bytes that were recorded of it, as long as there are some; then as many must be recorded as there are. Fewer than eight bytes behind them are no number, and passed over
 unfoldable pub cells_from : ℕ → List ℕ → List ℕ → Result ⊤ Difference
-cells_from i [] recorded = Ok tt
-cells_from i (n ∷ numbers) recorded = cond (eqb n (eight_at recorded (8 * i))) (cells_from (suc i) numbers recorded) (Err (Cell i n (eight_at recorded (8 * i))))
+cells_from i [] recorded = cond (eqb (length recorded / 8) i) (Ok tt) (Err Malformed)
+cells_from i (n ∷ numbers) recorded =
+    cond (ltb i (length recorded / 8))
+    (cond (eqb n (eight_at recorded (8 * i))) (cells_from (suc i) numbers recorded) (Err (Cell i n (eight_at recorded (8 * i)))))
+    (Err Malformed)
 
--- as many are recorded as there are
 abbrev pub compare_numbers : List ℕ → List ℕ → Result ⊤ Difference
-compare_numbers numbers recorded = cond (eqb (length recorded) (8 * length numbers)) (cells_from 0 numbers recorded) (Err Malformed)
+compare_numbers numbers recorded = cells_from 0 numbers recorded
 
 -- the byte at a place of the lent list, beside the recorded one
 abbrev pub byte : List ℕ → ℕ → ℕ → Difference

@@ -55,14 +55,14 @@ impl fmt::Display for Difference {
     }
 }
 
-// A recorded number has eight bytes.
+// A recorded number has eight bytes; fewer behind the last one are passed over.
 fn compare_numbers(numbers: &[u64], recorded: &[u8]) -> Result<(), Difference>
     ensures { result ≡ compare_numbers numbers.now recorded.now }
 {
-    if recorded.len() % 8 != 0 || recorded.len() / 8 != numbers.len() {
-        return Err(Difference::Malformed);
-    }
     for index in 0..numbers.len() {
+        if recorded.len() / 8 <= index {
+            return Err(Difference::Malformed);
+        }
         let is = numbers[index];
         let recorded = eight(recorded, 8 * index);
         if is != recorded {
@@ -72,6 +72,9 @@ fn compare_numbers(numbers: &[u64], recorded: &[u8]) -> Result<(), Difference>
                 recorded,
             });
         }
+    }
+    if recorded.len() / 8 != numbers.len() {
+        return Err(Difference::Malformed);
     }
     Ok(())
 }

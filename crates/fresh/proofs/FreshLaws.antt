@@ -1,11 +1,12 @@
 -- What a board of zeros holds, and the board that is made of it.
 use mathlib.Core.Bool.{false}
 use mathlib.Core.Path.{◌≡◌, refl, ap, sym, ◌∙◌}
-use mathlib.Core.List.{List, [], ◌∷◌, map}
-use Prim.Native.Nat.{ℕ, zero, suc, ◌+◌, ◌*◌, ◌-◌, ◌/◌, ◌≤◌, min}
+use mathlib.Core.List.{List, [], ◌∷◌, ◌++◌, map}
+use Prim.Native.Nat.{ℕ, zero, suc, ◌+◌, ◌*◌, ◌-◌, ◌/◌, ◌≤◌, ◌<◌, min}
 use native.Mathlib.Nat.{mul-suc, add_comm}
 use native.Mathlib.Omega.{arith}
-use lib.ListN.{length, get_or, take, drop, replicate, length-replicate}
+use lib.ListN.{length, get_or, set, take, drop, replicate, length-replicate}
+use lib.Seq.{take-suc-set, take_all}
 use Rattle.layout.specs.Parts.{part, start_of, size_of}
 use Rattle.layout.proofs.PartLaws.{parts_within}
 use Rattle.memory.specs.Blocks.{blocks}
@@ -46,6 +47,10 @@ module _ {A : Type 0} (x : A) where
   take_same (suc k) zero h = absurd (omega arith)
   take_same (suc k) (suc n) h = ap (λ (l : List A). x ∷ l) (take_same k n (omega arith))
 
+  same_more : (n : ℕ) → replicate n x ++ (x ∷ []) ≡ replicate (suc n) x
+  same_more zero = refl
+  same_more (suc n) = ap (λ (l : List A). x ∷ l) (same_more n)
+
   map_same : {B : Type 0} (f : A → B) (n : ℕ) → map f (replicate n x) ≡ replicate n (f x)
   map_same {B} f zero = refl
   map_same {B} f (suc n) = ap (λ (l : List B). f x ∷ l) (map_same f n)
@@ -55,6 +60,14 @@ zeros n = replicate n 0
 
 length_zeros : (n : ℕ) → length (zeros n) ≡ n
 length_zeros n = length-replicate {A = ℕ} n 0
+
+-- ---- memory cleared from the front
+
+pub clear_next : (l : List ℕ) (i : ℕ) → i < length l → take i l ≡ zeros i → take (suc i) (set l i 0) ≡ zeros (suc i)
+clear_next l i h e = take-suc-set l i 0 h ∙ ap (λ (r : List ℕ). r ++ (0 ∷ [])) e ∙ same_more {A = ℕ} 0 i
+
+pub clear_all : (l : List ℕ) (i n : ℕ) → length l ≤ i → i ≡ n → take i l ≡ zeros i → l ≡ zeros n
+clear_all l i n h s e = sym (take_all i l h) ∙ e ∙ ap (λ (m : ℕ). zeros m) s
 
 -- ---- what zeros hold
 

@@ -1,5 +1,5 @@
 // What is recorded of a group.
-ghost use Rattle.std.specs.Prelude.{◌≡◌, true};
+ghost use Rattle.std.specs.Prelude.{◌≡◌};
 ghost use Rattle.groups.specs.Groups.{fresh_group, group_read};
 
 // `rate` is the last recorded, in milliseconds. `last` is the clock time of its last round, and `before` that of the
@@ -23,13 +23,17 @@ impl Group {
     }
 }
 
-// The first tag of a group in a round.
-pub fn read(x: Group, rate: u32, at: f64) -> Group
-    ensures { result ≡ group_read x rate at true }
+// A tag of the group was read; its times move on with the first of a round.
+pub fn read(x: Group, rate: u32, at: f64, first: bool) -> Group
+    ensures { result ≡ group_read x rate at first }
 {
-    Group {
-        rate,
-        last: Some(at),
-        before: x.last,
+    if first {
+        Group {
+            rate,
+            last: Some(at),
+            before: x.last,
+        }
+    } else {
+        Group { rate, ..x }
     }
 }

@@ -46,7 +46,7 @@ fn put_first(s: &mut [u8], g: usize, rate: u32, at: f64)
     ensures { groups_in s.new ≡ set (groups_in s.old) g (group_read (get_or (groups_in s.old) g fresh_group) rate at true) }
 {
     let x = group_of(s, g);
-    put_group(s, g, group::read(x, rate, at));
+    put_group(s, g, group::read(x, rate, at, true));
 }
 
 // Another tag of it: nothing but its rate is written, as most tags of a round come here.

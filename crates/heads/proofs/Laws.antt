@@ -6,6 +6,7 @@ use lib.Ieee.{binary64, of_bits}
 use Rattle.heads.specs.Version.{version_from}
 use Rattle.heads.specs.Link.{state_from, state_number, link_from}
 use Rattle.heads.specs.Progress.{phase_from, phase_number, after_from, after_number, progress_from}
+use Rattle.heads.specs.Stats.{round_time_from, stats_from}
 use Rattle.heads.specs.declared.link.State.{State}
 use Rattle.heads.specs.declared.link.State.TheVariants.{Connecting, Connected, Disconnected, Stopped}
 use Rattle.heads.specs.declared.link.Link.{Link}
@@ -14,6 +15,7 @@ use Rattle.heads.specs.declared.progress.After.TheVariants.{Tail, Idle, End}
 use Rattle.heads.specs.declared.progress.Phase.{Phase}
 use Rattle.heads.specs.declared.progress.Phase.TheVariants.{Begin, Connect, OpenVersion, Version, Read, Describe, Write, ReadBack, Wait, Backoff, OpenFailedTold, OpenMetaTold, ConnectedTold, MetaTold, ValuesTold, InfoTold, RefusedTold, LostTold, OutcomeTold, BackTold, FailedTold, StaleTold, DisconnectedTold, ConnectingTold, Stopped as Halted}
 use Rattle.heads.specs.declared.progress.Progress.{Progress}
+use Rattle.heads.specs.declared.stats.Stats.{Stats}
 
 pub state_coded : (s : State) → state_from (state_number s) ≡ s
 state_coded Connecting = refl
@@ -65,3 +67,8 @@ pub progress_coded : (x : Progress) (phase after start tick boundary tag : ℕ)
     → progress_from phase after start tick boundary tag ≡ x
 progress_coded x phase after start tick boundary tag e1 e2 e3 e4 e5 e6 =
     rw (ap phase_from e1 ∙ phase_coded x.phase, ap after_from e2 ∙ after_coded x.after, e3, e4, e5, e6)
+
+pub stats_coded : (x : Stats) (timed ms ts : ℕ)
+    → round_time_from timed ms ts ≡ x.last
+    → stats_from timed ms ts x.tags x.overruns x.reconnects x.reloads ≡ x
+stats_coded x timed ms ts e = rw e

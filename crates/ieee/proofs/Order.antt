@@ -1,5 +1,5 @@
 -- The order of floats: what `le` says of two of them, and the laws of `le` and `lt`, which are std's.
-use Rattle.std.proofs.Common.{◌≡◌, ℕ, zero, suc, ◌+◌, ◌*◌, ◌<◌, ◌≤◌, Bool, true, false, not, ◌&&◌, ◌||◌, T, eqb, ltb, sym, refl, ◌∙◌, subst, inl, inr, le_of_eq, le_of_lt, lt_irrefl, zero-lt-suc, eq-or-lt_of_le, mul-pos, arith, eqb→eq, ltb→lt, lt→ltb, nltb→le}
+use Rattle.std.proofs.Common.{◌≡◌, ℕ, zero, suc, ◌+◌, ◌*◌, ◌<◌, ◌≤◌, Bool, true, false, not, ◌&&◌, ◌||◌, T, eqb, ltb, ◌⊎◌, sym, refl, ◌∙◌, subst, inl, inr, le_of_eq, le_of_lt, lt_irrefl, zero-lt-suc, eq-or-lt_of_le, mul-pos, arith, eqb→eq, ltb→lt, lt→ltb, nltb→le}
 use Rattle.std.proofs.lemmas.Float as float
 use lib.Ieee.{Float, nan, inf, fin, up, down, below, level, lt, le, is_nan}
 use lib.Ieee.Fits.{and_l, and_r, and_i, eq→eqb}
@@ -102,6 +102,13 @@ le_trans_float x y z g h = float.le_trans x y z g h
 
 pub lt→le : (x y : Float) → T (lt x y) → T (le x y)
 lt→le x y h = float.le_of_lt x y h
+
+pub le_total-float : (x y : Float) → T (not (is_nan x)) → T (not (is_nan y)) → T (le x y) ⊎ T (le y x)
+le_total-float x y p q = go (le x y) refl
+  where
+    go : (b : Bool) → le x y ≡ b → T (le x y) ⊎ T (le y x)
+    go true e = inl (yes e)
+    go false e = inr (lt→le y x (float.lt_of_not-le x y p q (no e)))
 
 pub not-lt→le : (x y : Float) → T (not (is_nan x)) → T (not (is_nan y)) → T (not (lt x y)) → T (le y x)
 not-lt→le x y p q h = float.le_of_not-lt x y p q h

@@ -4,13 +4,14 @@ use mathlib.Core.Bool.{Bool, true, false, cond, not, ◌&&◌, true≢false}
 use mathlib.Core.List.{List}
 use Prim.Native.Nat.{ℕ, ◌≤◌}
 use native.Mathlib.Omega.{arith}
-use borrow.Author.Tests.{eqb-true, leb-true}
+use borrow.Author.Tests.{eqb-true, leb-true, eq-eqb, ne_eqb}
 use lib.Dec.{eqb, leb}
 use lib.ListN.{length}
 use Rattle.names.specs.Directory.{max_names, bad_count, good_ends, good_names, names_of, rising, directory_check}
-use Rattle.board.specs.Layout.{board_size, tags_for, tags_in, is_board_size, IsBoard}
+use Rattle.lent.specs.Lent.{over_bytes}
+use Rattle.board.specs.Layout.{board_size, tags_for, tags_in, is_board_size, IsBoard, parts_in}
 use Rattle.board.specs.Board.{Board, Holds}
-use Rattle.leaves.specs.Polls.{not_aBoard, size_check, fresh_check, Called}
+use Rattle.leaves.specs.Polls.{not_aBoard, size_check, fresh_check, Called, part_left}
 
 -- ---- the checks
 
@@ -76,3 +77,11 @@ refused_call bs r n B e z = record { code = e; done = λ g. absurd (z (e ∙ g))
 
 pub done_call : (old new : List ℕ) (n : ℕ) (B : Board) → n ≡ 0 → Holds new B → Called old new 0 n B
 done_call old new n B e h = record { code = sym e; done = λ g. h; kept = λ g. absurd (g e) }
+
+-- a look at the part i of a board: where memory is no board's, the lent list stays as it is
+pub part-refused : (mem out : List ℕ) (r i : ℕ) → r ≡ size_check mem → (r ≡ 0 → ⊥) → (r ≡ size_check mem) × (out ≡ part_left mem i out)
+part-refused mem out r i e z = (e, rw (ne_eqb (size_check mem) 0 (λ g. z (e ∙ g))) refl)
+
+-- and else it gets the bytes of the part
+pub part-told : (mem out new bytes : List ℕ) (i : ℕ) → size_check mem ≡ 0 → bytes ≡ parts_in mem i → new ≡ over_bytes out bytes → (0 ≡ size_check mem) × (new ≡ part_left mem i out)
+part-told mem out new bytes i e b w = (sym e, w ∙ ap (over_bytes out) b ∙ rw (eq-eqb (size_check mem) 0 e) refl)

@@ -81,14 +81,14 @@ wrote_none out = over_none out
 pub wrote-length : (out cells : List ℕ) → length (over_bytes out (cell_bytes cells)) ≡ length out
 wrote-length out cells = over-length out (cell_bytes cells)
 
-wrote_fits : (out cells : List ℕ) → 8 * length cells ≤ length out → over_bytes out (cell_bytes cells) ≡ cell_bytes cells ++ drop (8 * length cells) out
+pub wrote_fits : (out cells : List ℕ) → 8 * length cells ≤ length out → over_bytes out (cell_bytes cells) ≡ cell_bytes cells ++ drop (8 * length cells) out
 wrote_fits out cells h =
     over_fits out (cell_bytes cells) (omega (arith, length_bytes cells))
     ∙ ap (λ (n : ℕ). cell_bytes cells ++ drop n out) (length_bytes cells)
 
 -- ---- a record
 
-record_fits : (out : List ℕ) (i : ℕ) (cells : List ℕ) → 8 * (i + length cells) ≤ length out
+pub record_fits : (out : List ℕ) (i : ℕ) (cells : List ℕ) → 8 * (i + length cells) ≤ length out
     → record_put out i cells ≡ take (8 * i) out ++ (cell_bytes cells ++ drop (8 * (i + length cells)) out)
 unfolding record_put
 record_fits out i cells h = rw (le-leb _ _ h)
@@ -105,7 +105,7 @@ record_none out i h =
     ∙ ap (λ (n : ℕ). take (8 * i) out ++ drop n out) (let e : 8 * (i + 0) ≡ 8 * i = omega arith in e)
     ∙ take-append-drop (8 * i) out)
 
-record_length : (out : List ℕ) (i : ℕ) (cells : List ℕ) → 8 * (i + length cells) ≤ length out → length (record_put out i cells) ≡ length out
+pub record_length : (out : List ℕ) (i : ℕ) (cells : List ℕ) → 8 * (i + length cells) ≤ length out → length (record_put out i cells) ≡ length out
 record_length out i cells h =
     let n = 8 * (i + length cells) in
     ap length (record_fits out i cells h)
@@ -113,7 +113,7 @@ record_length out i cells h =
     ∙ omega (arith, length-append (cell_bytes cells) (drop n out), length_bytes cells, length-drop n out, length-take-le (8 * i) out (omega arith))
 
 -- a record after a record
-record_more : (out : List ℕ) (i : ℕ) (a b : List ℕ) → 8 * (i + length a + length b) ≤ length out
+pub record_more : (out : List ℕ) (i : ℕ) (a b : List ℕ) → 8 * (i + length a + length b) ≤ length out
     → record_put (record_put out i a) (i + length a) b ≡ record_put out i (a ++ b)
 record_more out i a b h =
     let front = take (8 * i) out ++ cell_bytes a in
@@ -160,7 +160,7 @@ put_record out cells more h =
 
 -- ---- a cell is a record of one
 
-cell_record : (out : List ℕ) (i v : ℕ) → cell_put out i v ≡ record_put out i (v ∷ [])
+pub cell_record : (out : List ℕ) (i v : ℕ) → cell_put out i v ≡ record_put out i (v ∷ [])
 unfolding cell_put record_put
 cell_record out i v =
     let more : 8 * i + 8 ≡ 8 * (i + 1) = omega arith in

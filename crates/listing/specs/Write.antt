@@ -34,6 +34,6 @@ numbers_of ms boundary count tags = ms ∷ cond boundary 1 0 ∷ count ∷ tags
 unfoldable pub line_of : ℕ → Bool → List ℕ → List ℕ
 line_of ms boundary tags = fields_of (numbers_of ms boundary (length tags) tags) ++ (10 ∷ [])
 
--- The bytes stand behind those that stood in a line of `room` places. Where they do not all fit, that is answered, and nothing is said of the line.
+-- The bytes stand behind those that stood in a line of `room` places. Where they do not all fit, that is answered, and the line is as it was.
 abbrev pub Put : ℕ → List ℕ → List ℕ → List ℕ → Result ⊤ Full → Type 0
-Put room old new bytes r = MatchResult r (λ _. (new ≡ old ++ bytes) × (length old + length bytes ≤ room)) (λ _. room < length old + length bytes)
+Put room old new bytes r = MatchResult r (λ _. (new ≡ old ++ bytes) × (length old + length bytes ≤ room)) (λ _. (new ≡ old) × (room < length old + length bytes))

@@ -1,11 +1,11 @@
-// The lines that the round lister writes. Each function puts its bytes behind those that stand in the line.
-ghost use Rattle.std.specs.Prelude.{◌≡◌, [], ◌∷◌, ◌+◌, ◌%◌};
+// The lines that the round lister writes. Each function puts its bytes behind those that stand in the line, or none.
+ghost use Rattle.std.specs.Prelude.{◌≡◌, [], ◌∷◌, ◌+◌, ◌%◌, take, MatchResult};
 ghost use Rattle.tags.specs.Lists.{list_in};
 ghost use Rattle.listing.specs.Write.{decimal_of, Put, fields_of, numbers_of, line_of};
 
 use arrayvec::ArrayVec;
 
-// The line has no room for all of the bytes; then what stands in it is of no use.
+// The line has no room for all of the bytes; then it is left as it was.
 #[derive(Clone, Copy, Debug)]
 pub struct Full;
 
@@ -16,7 +16,22 @@ fn digit(n: u64) -> u8
     (48 + n % 10) as u8
 }
 
-fn put_byte<const N: usize>(out: &mut ArrayVec<u8, N>, b: u8) -> Result<(), Full>
+// Where the last part found no room, those put before it go too: the line keeps its first `len` bytes.
+fn or_truncate<const N: usize>(
+    put: Result<(), Full>,
+    out: &mut ArrayVec<u8, N>,
+    len: usize,
+) -> Result<(), Full>
+    ensures value { result ≡ put }
+    ensures line { MatchResult put (λ _. out.new.items ≡ out.old.items) (λ _. out.new.items ≡ take len out.old.items) }
+{
+    if put.is_err() {
+        out.truncate(len);
+    }
+    put
+}
+
+pub fn put_byte<const N: usize>(out: &mut ArrayVec<u8, N>, b: u8) -> Result<(), Full>
     ensures { Put N out.old.items out.new.items (b ∷ []) result }
 {
     if out.is_full() {
@@ -27,21 +42,23 @@ fn put_byte<const N: usize>(out: &mut ArrayVec<u8, N>, b: u8) -> Result<(), Full
 }
 
 // n in decimal. It calls itself for the digits before the last: a u64 has 20 at most.
-fn put_number<const N: usize>(out: &mut ArrayVec<u8, N>, n: u64) -> Result<(), Full>
+pub fn put_number<const N: usize>(out: &mut ArrayVec<u8, N>, n: u64) -> Result<(), Full>
     ensures { Put N out.old.items out.new.items (decimal_of n) result }
 {
+    let len = out.len();
     if 10 <= n {
         put_number(out, n / 10)?;
     }
-    put_byte(out, digit(n))
+    or_truncate(put_byte(out, digit(n)), out, len)
 }
 
 // A field after the first of its line: a space and n.
-fn put_field<const N: usize>(out: &mut ArrayVec<u8, N>, n: u64) -> Result<(), Full>
+pub fn put_field<const N: usize>(out: &mut ArrayVec<u8, N>, n: u64) -> Result<(), Full>
     ensures { Put N out.old.items out.new.items (32 ∷ decimal_of n) result }
 {
+    let len = out.len();
     put_byte(out, b' ')?;
-    put_number(out, n)
+    or_truncate(put_number(out, n), out, len)
 }
 
 // Time, boundary and count, with which each round's line begins. A boundary is marked 1.
@@ -53,9 +70,10 @@ fn put_head<const N: usize>(
 ) -> Result<(), Full>
     ensures { Put N out.old.items out.new.items (fields_of (numbers_of ms boundary count [])) result }
 {
+    let len = out.len();
     put_number(out, ms)?;
-    put_field(out, u64::from(boundary))?;
-    put_field(out, count)
+    or_truncate(put_field(out, u64::from(boundary)), out, len)?;
+    or_truncate(put_field(out, count), out, len)
 }
 
 // The line of a round.
@@ -67,10 +85,11 @@ pub fn put_line<const N: usize>(
 ) -> Result<(), Full>
     ensures { Put N out.old.items out.new.items (line_of ms boundary (list_in list.now)) result }
 {
+    let len = out.len();
     let count = tags::count(list);
     put_head(out, ms, boundary, count as u64)?;
     for i in 0..count {
-        put_field(out, tags::at(list, i) as u64)?;
+        or_truncate(put_field(out, tags::at(list, i) as u64), out, len)?;
     }
-    put_byte(out, b'\n')
+    or_truncate(put_byte(out, b'\n'), out, len)
 }

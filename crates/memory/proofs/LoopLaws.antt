@@ -5,7 +5,7 @@ use Prim.Native.Nat.{ℕ, suc, ◌+◌, ◌≤◌, ◌<◌}
 use native.Mathlib.Nat.{zero-add}
 use native.Mathlib.Numerals.{add-one}
 use native.Mathlib.Omega.{arith}
-use lib.ListN.{length, get_or, set, take, drop, length-map, drop_of_length-le}
+use lib.ListN.{length, get_or, set, take, drop, length-map, length-append, length-drop, drop_of_length-le}
 use lib.Seq.{paste, paste-suc, take_all, take-length, drop-length, take-suc, drop-cons, length-take-le, get_or_at, set_at}
 
 -- ---- a list w, at first d, filled from src: j places are done
@@ -52,3 +52,6 @@ module _ {ℓ} {A : Type ℓ} (f : A → A) (l : List A) where
 
   pub mapped_all : (i : ℕ) → i ≡ length l → mapped f i l ≡ map f l
   mapped_all i h = rw (h, take-length, drop-length, append-nil)
+
+  pub length_of_mapped : (i : ℕ) → i ≤ length l → length (mapped f i l) ≡ length l
+  length_of_mapped i h = length-append (map f (take i l)) (drop i l) ∙ omega (arith, front i h, length-drop i l)

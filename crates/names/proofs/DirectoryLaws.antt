@@ -7,8 +7,8 @@ use native.Mathlib.Nat.{not-suc-le-zero, le_of_suc-le-suc}
 use native.Mathlib.Omega.{arith}
 use borrow.Author.Tests.{lt-ltb, le-ltb, ltb-true, ltb-false, leb-true, eqb-true, eqb-false, eq-eqb, ne_eqb}
 use lib.Dec.{ltb, leb, eqb}
-use lib.ListN.{length, drop, get_or, length-take, length-drop, take-append-drop, get_or-eq_default}
-use lib.Seq.{drop-drop}
+use lib.ListN.{length, drop, get_or, length-take, length-drop, drop_of_length-le, take-append-drop, get_or-eq_default}
+use lib.Seq.{drop-drop, take_all, take-nil}
 use Rattle.names.specs.Directory.{piece, cut, names_of, name_at, good_ends, good_bytes, good_names, rising, directory_check}
 use Rattle.names.proofs.Loops.{bytes_end}
 
@@ -16,6 +16,14 @@ use Rattle.names.proofs.Loops.{bytes_end}
 
 pub piece_none : (from end : ℕ) (s : List ℕ) → end ≤ from → piece from end s ≡ []
 piece_none from end s h = let z : end - from ≡ 0 = omega arith in rw z
+
+pub piece_past : (from end : ℕ) (s : List ℕ) → length s ≤ from → piece from end s ≡ []
+piece_past from end s h = rw (drop_of_length-le s h) (take-nil (end - from))
+
+-- an end past the buffer's is the buffer's
+pub piece_long : (from end : ℕ) (s : List ℕ) → length s ≤ end → piece from (length s) s ≡ piece from end s
+piece_long from end s h =
+    take_all (length s - from) (drop from s) (simp length-drop (omega arith)) ∙ sym (take_all (end - from) (drop from s) (simp length-drop (omega arith)))
 
 length_cut : (at : ℕ) (ends s : List ℕ) → length (cut at ends s) ≡ length ends
 unfolding cut

@@ -39,7 +39,7 @@ take-length_of zero l = refl
 take-length_of (suc n) [] = refl
 take-length_of (suc n) (x ∷ l) = ap (λ (r : List Write). x ∷ r) (take-length_of n l)
 
-queue_places : (bs : List ℕ) → take (length (queue_in bs)) (places_in bs) ≡ queue_in bs
+pub queue_places : (bs : List ℕ) → take (length (queue_in bs)) (places_in bs) ≡ queue_in bs
 unfolding queue_in
 queue_places bs = take-length_of (get_or (cells_in bs) 0 0) (places_in bs)
 
@@ -121,7 +121,7 @@ cleared old new e = ap (λ (n : ℕ). take n (places_in new)) (ap (λ (cs : List
 
 -- ---- push
 
-queued_more : (n : ℕ) (ws : List Write) (w : Write) → length ws < n → queued_with n ws w ≡ ws ++ (w ∷ [])
+pub queued_more : (n : ℕ) (ws : List Write) (w : Write) → length ws < n → queued_with n ws w ≡ ws ++ (w ∷ [])
 queued_more n ws w h = rw (lt-ltb (length ws) n h)
 
 pub push_put : (old mid new : List ℕ) (n : ℕ) (w : Write) → n ≡ length (queue_in old) → n < queue_room old → length mid ≡ length old → length new ≡ length mid

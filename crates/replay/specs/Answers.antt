@@ -1,5 +1,7 @@
 -- The numbers of an answer, in the order in which its frame has them.
-use Rattle.std.specs.Prelude.{ℕ, List, [], ◌∷◌, ◌%◌, take, drop}
+use Rattle.std.specs.Prelude.{ℕ, List, [], ◌∷◌, ◌/◌, ◌%◌, map, length, take, drop}
+use Rattle.std.specs.Int.{w32, from_le_bytes}
+use Rattle.std.specs.Simd.{first_chunks}
 use Rattle.std.specs.Float.Ieee.{binary64, to_bits}
 use Rattle.std.proofs.Common.{of_z, w64}
 use Rattle.frames.specs.Numbers.{four_at, eight_at}
@@ -42,3 +44,7 @@ third frame = eight_at (drop 8 (drop 8 frame)) 0
 -- the list behind the first eight bytes
 abbrev pub second_list : List ℕ → List ℕ
 second_list frame = take (four_at (drop 8 frame) 0) (drop 4 (drop 8 frame))
+
+-- the ends in a list, four bytes each; fewer bytes behind the last one are none
+abbrev pub ends_in : List ℕ → List ℕ
+ends_in list = map (from_le_bytes w32) (first_chunks 4 (length list / 4) list)

@@ -1,5 +1,5 @@
 // Creation and the calls that change an engine. Each reads its parameters from its frame, in their order.
-ghost use Rattle.std.specs.Prelude.{◌≡◌, ◌≤◌, ◌<◌, length, drop, get_or, MatchResult};
+ghost use Rattle.std.specs.Prelude.{◌≡◌, ◌≤◌, ◌<◌, ◌*◌, length, drop, get_or, MatchResult};
 ghost use Rattle.frames.specs.Numbers.{eight_at};
 ghost use Rattle.std.specs.Float.{binary64};
 ghost use Rattle.std.specs.Float.Ieee.{of_bits};
@@ -7,7 +7,7 @@ ghost use Rattle.words.specs.Value.{value_from};
 ghost use Rattle.checks.specs.Calls.{tier_check, load_check, write_check};
 ghost use Rattle.capi.specs.Memory.{Called, worker_in};
 ghost use Rattle.capi.specs.Calls.{tiered, loaded, wrote, halted};
-ghost use Rattle.replay.specs.Answers.{low, first, second, third, second_list};
+ghost use Rattle.replay.specs.Answers.{low, first, second, third, second_list, ends_in};
 
 use arrayvec::ArrayVec;
 use capi::calls::{wz_load, wz_set_tier, wz_step, wz_stop, wz_write};
@@ -40,13 +40,17 @@ fn options(frame: &mut Reader) -> Result<Options, Malformed> {
     })
 }
 
-// The numbers of four bytes in a list.
-fn ends_in(list: &[u8]) -> Result<ArrayVec<u32, ENDS>, Malformed> {
+// The numbers of four bytes in a list; fewer bytes behind the last one are passed over.
+fn ends_in(list: &[u8]) -> Result<ArrayVec<u32, ENDS>, Malformed>
+    ensures { MatchResult result (λ ends. (length list.now ≤ 4 * ENDS) × (ends.items ≡ ends_in list.now)) (λ _. 4 * ENDS < length list.now) }
+{
+    if list.len() > 4 * ENDS {
+        return Err(Malformed);
+    }
     let (numbers, _) = list.as_chunks::<4>();
     let mut ends = ArrayVec::new();
     for number in numbers {
-        ends.try_push(u32::from_le_bytes(*number))
-            .or(Err(Malformed))?;
+        ends.push(u32::from_le_bytes(*number));
     }
     Ok(ends)
 }

@@ -8,7 +8,6 @@ use frames::parts::Reader;
 use frames::report::{Ending, Report};
 use lent::changes::CHANGE;
 use names::directory::MAX_NAMES;
-use std::alloc::{AllocError, Global};
 use std::io;
 use std::io::{ErrorKind, Read};
 
@@ -43,28 +42,25 @@ fn read_frame<'a>(from: &mut impl Read, room: &'a mut [u8]) -> io::Result<Option
     Ok(read_full(from, frame)?.then_some(&*frame))
 }
 
-// An input that is replayed, how far, and the memory and the list that calls are lent.
+// An input that is replayed, how far, and the memory and the list that calls are lent: arrays, so that no heap is needed.
 #[derive(Drop)]
 pub struct Replay<I> {
     from: I,
     counts: Counts,
-    room: Vec<u8>,
-    mem: Vec<u8>,
-    out: Vec<u8>,
+    room: [u8; ROOM],
+    mem: [u8; MEMORY],
+    out: [u8; LIST],
 }
 
 impl<I: Read> Replay<I> {
-    pub fn new(alloc: Global, from: I) -> Result<Replay<I>, AllocError>
-    where
-        I: Drop,
-    {
-        Ok(Replay {
+    pub fn new(from: I) -> Replay<I> {
+        Replay {
             from,
             counts: Counts::default(),
-            room: vec![in alloc; 0u8; ROOM]?,
-            mem: vec![in alloc; 0u8; MEMORY]?,
-            out: vec![in alloc; 0u8; LIST]?,
-        })
+            room: [0; ROOM],
+            mem: [0; MEMORY],
+            out: [0; LIST],
+        }
     }
 
     // The last frame: all that was recorded has been replayed, and nothing is behind it.

@@ -12,6 +12,6 @@ use std::io;
 
 // The first read or write that fails ends the replay.
 fn main(rt: HostRuntime) -> io::Result<()> {
-    let report = Replay::new(rt.alloc(), rt.reader())?.run()?;
+    let report = Replay::new(rt.reader()).run()?;
     println!(rt; "{report}")
 }

@@ -72,7 +72,7 @@ impl Reply {
         seconds: 0.0,
     };
 
-    fn listed(kind: u64, count: u64) -> Reply
+    pub fn listed(kind: u64, count: u64) -> Reply
         ensures { result ≡ listed kind count }
     {
         Reply {
@@ -96,7 +96,7 @@ impl Reply {
         }
     }
 
-    fn wait(seconds: f64) -> Reply
+    pub fn wait(seconds: f64) -> Reply
         ensures { result ≡ wait seconds }
     {
         Reply {
@@ -106,7 +106,7 @@ impl Reply {
         }
     }
 
-    fn status(state: State) -> Reply
+    pub fn status(state: State) -> Reply
         ensures { result ≡ status state }
     {
         Reply {

@@ -2,12 +2,12 @@
 use mathlib.Core.Path.{◌≡◌, refl, ap, sym, ◌∙◌}
 use mathlib.Core.Bool.{Bool, true, false}
 use mathlib.Core.List.{List, [], ◌∷◌, map}
-use Prim.Native.Nat.{ℕ, ◌+◌, ◌*◌, ◌/◌, ◌<◌, min}
+use Prim.Native.Nat.{ℕ, ◌+◌, ◌*◌, ◌/◌, ◌≤◌, ◌<◌, min}
 use native.Mathlib.Nat.{zero-add}
 use native.Mathlib.Omega.{arith}
 use borrow.Author.Tests.{ltb-true, ltb-false}
 use lib.Dec.{ltb}
-use lib.ListN.{length, get_or, set, take, drop, length-map, length-take, length-drop}
+use lib.ListN.{length, get_or, set, take, drop, length-map, length-take, length-drop, get_or-eq_default}
 use lib.Seq.{paste, take-paste, take-nil, take_all, get_or-take}
 use Rattle.memory.specs.Blocks.{blocks}
 use Rattle.memory.specs.Cells.{cells_in}
@@ -84,6 +84,9 @@ unfolding configured_in
 kept_at bs i h =
     let long = length-kept bs in
     sym (get_or-take (get_or (cells_in bs) 0 0) (group_places bs) i no_group (omega arith) ∙ group_at bs i (omega arith))
+
+pub kept_none : (bs : List ℕ) (i : ℕ) → length (configured_in bs) ≤ i → get_or (configured_in bs) i no_group ≡ no_group
+kept_none bs i h = get_or-eq_default (configured_in bs) no_group h
 
 -- a new count: the places stay
 recounted : (ws : List ℕ) (n : ℕ)

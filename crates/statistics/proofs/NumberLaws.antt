@@ -1,19 +1,22 @@
 -- Each number of a list once, one place at a time.
 use mathlib.Core.Path.{◌≡◌, refl, ap, sym, ◌∙◌}
 use mathlib.Core.Bool.{Bool, true, false, not, cond}
-use mathlib.Core.List.{List, [], ◌∷◌, ◌++◌, append_assoc, append-nil}
-use Prim.Native.Nat.{ℕ, ◌+◌, ◌≤◌, ◌<◌}
+use mathlib.Core.List.{List, [], ◌∷◌, ◌++◌, map, append_assoc, append-nil}
+use Prim.Native.Nat.{ℕ, ◌+◌, ◌-◌, ◌≤◌, ◌<◌}
 use native.Mathlib.Numerals.{add-one}
 use native.Mathlib.Omega.{arith}
-use borrow.Author.Tests.{eqb-true, eqb-false, eq-eqb, ne_eqb, lt-ltb, not-true, not-false}
+use borrow.Author.Tests.{eqb-true, eqb-false, eq-eqb, ne_eqb, lt-ltb, le-ltb, not-true, not-false}
 use lib.Dec.{eqb}
-use lib.ListN.{length, get_or, take, drop, length-append, take-append-drop}
-use lib.Seq.{take-suc}
+use lib.ListN.{length, get_or, take, drop, length-append, length-map, take-append-drop, get_or-append}
+use lib.Seq.{take-suc, get_or-append-add}
 use Rattle.lists.specs.Keep.{keep, without, count, Below}
 use Rattle.lists.proofs.KeepLaws.{keep_append, count-without, count-without_other, below-keep, length-keep}
 use Rattle.lists.proofs.CountLaws.{length_few}
+use Rattle.memory.proofs.RowLaws.{map_at}
 use Rattle.tags.specs.Lists.{member}
-use Rattle.statistics.specs.Numbers.{firsts, is_first}
+use Rattle.table.specs.declared.tag.GroupRate.{GroupRate}
+use Rattle.settings.specs.Configured.{no_group}
+use Rattle.statistics.specs.Numbers.{firsts, is_first, named}
 
 -- one number, where it is new
 abbrev once : Bool → ℕ → List ℕ
@@ -61,6 +64,10 @@ module _ (xs : List ℕ) (i : ℕ) (h : i < length xs) where
       ∙ ap (λ (b : Bool). firsts (take i xs) ++ once b (get_or xs i 0)) (not-false (member (get_or xs i 0) (take i xs)) (sym first_is ∙ e))
       ∙ append-nil (firsts (take i xs))
 
+-- past the end no place is the first with its number
+pub first_past : (xs : List ℕ) (i : ℕ) → length xs ≤ i → is_first xs i ≡ false
+first_past xs i h = rw (le-ltb i (length xs) h)
+
 pub firsts_none : (xs : List ℕ) → firsts (take 0 xs) ≡ []
 unfolding firsts
 firsts_none xs = refl
@@ -99,3 +106,23 @@ firsts-below n (x ∷ xs) b = (b.0, below-keep n (λ (z : ℕ). not (eqb x z)) (
 -- where every number is below n there are at most n groups
 pub firsts_few : (n : ℕ) (xs : List ℕ) → Below n xs → length (firsts xs) ≤ n
 firsts_few n xs b = length_few n (firsts xs) (firsts-below n xs b) (λ k. firsts_once k xs)
+
+-- ---- the configured numbers, and the recorded ones after them
+
+module _ (configured : List GroupRate) (recorded : List ℕ) where
+  pub length-named : length (named configured recorded) ≡ length configured + length recorded
+  length-named =
+      length-append (map (λ (x : GroupRate). x.number) configured) recorded
+      ∙ ap (λ (n : ℕ). n + length recorded) (length-map configured (λ (x : GroupRate). x.number))
+
+  pub named-configured : (i : ℕ) → i < length configured → (get_or configured i no_group).number ≡ get_or (named configured recorded) i 0
+  named-configured i h =
+      sym
+      (get_or-append (map (λ (x : GroupRate). x.number) configured) recorded 0 i (omega (arith, length-map configured (λ (x : GroupRate). x.number)))
+      ∙ map_at (λ (x : GroupRate). x.number) configured i no_group)
+
+  pub named-recorded : (i n : ℕ) → n ≡ length configured → n ≤ i → get_or recorded (i - n) 0 ≡ get_or (named configured recorded) i 0
+  named-recorded i n e h =
+      let front = map (λ (x : GroupRate). x.number) configured in
+      let place : length front + (i - n) ≡ i = omega (arith, length-map configured (λ (x : GroupRate). x.number)) in
+      sym (ap (λ (j : ℕ). get_or (front ++ recorded) j 0) (sym place) ∙ get_or-append-add front recorded (i - n) 0)

@@ -15,7 +15,7 @@ use Rattle.step_checks.specs.declared.answer.Kind.{Kind}
 use Rattle.step_checks.specs.declared.answer.Kind.TheVariants as kind
 use Rattle.step_checks.specs.declared.awaiting.Wait.{Wait as Awaited}
 use Rattle.step_checks.specs.declared.awaiting.Wait.TheVariants as wait
-use Rattle.step_checks.specs.Kinds.{is_version, is_results}
+use Rattle.step_checks.specs.Kinds.{is_error, is_version, is_results}
 
 -- An answer: its kind, and the bytes of a list of records.
 pub record Answer : Type 0 where
@@ -64,7 +64,7 @@ answers wait.Version (kind.Version v) = true
 answers wait.Results kind.Results = true
 answers wait.Results kind.Lost = true
 answers wait.Write kind.Written = true
-answers wait.Write (kind.Refused error message) = true
+answers wait.Write (kind.Refused error message) = is_error error
 answers wait.Write kind.Lost = true
 answers wait.Descriptions kind.Descriptions = true
 answers wait.Descriptions kind.NotDescribed = true

@@ -56,7 +56,7 @@ impl Kind {
     pub const TAKEN: u64 = 12;
 }
 
-fn is_error(n: u64) -> bool
+pub(crate) fn is_error(n: u64) -> bool
     ensures { result ≡ is_error n }
 {
     n != 0 && n < 0x1_0003

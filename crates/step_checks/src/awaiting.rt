@@ -6,7 +6,7 @@ ghost use Rattle.board.specs.Layout.{IsBoard};
 ghost use Rattle.replies.specs.Worker.{worker};
 ghost use Rattle.step_checks.specs.Awaited.{answer, awaited, answers, contents, step_check};
 
-use super::answer::{Answer, Kind};
+use super::answer::{Answer, Kind, is_error};
 use board::tag_lists::asked_count;
 use engine::Engine;
 use heads::progress::Phase;
@@ -55,7 +55,11 @@ fn answers(wait: Wait, kind: Kind) -> bool
         Wait::Connect => matches!(kind, Kind::Opened | Kind::NotOpened),
         Wait::Version => matches!(kind, Kind::Version(_)),
         Wait::Results => matches!(kind, Kind::Results | Kind::Lost),
-        Wait::Write => matches!(kind, Kind::Written | Kind::Refused(_, _) | Kind::Lost),
+        Wait::Write => match kind {
+            Kind::Written | Kind::Lost => true,
+            Kind::Refused(error, _) => is_error(error),
+            _ => false,
+        },
         Wait::Descriptions => matches!(kind, Kind::Descriptions | Kind::NotDescribed),
         Wait::Time => matches!(kind, Kind::Waited),
         Wait::Taken => matches!(kind, Kind::Taken),

@@ -3,7 +3,7 @@ use Rattle.std.specs.Prelude.{Bool, List, map, ℕ, min, Float, length, Option, 
 use Rattle.lists.specs.Keep.{up_to}
 use Rattle.memory.specs.Cells.{rows_in}
 use Rattle.values.specs.declared.entry.Entry.{Entry}
-use Rattle.table.specs.Tag.{no_timing}
+use Rattle.table.specs.Tag.{f0, no_timing}
 use Rattle.table.specs.Row.{tag_from}
 use Rattle.table.specs.declared.tag.Grace.{Grace}
 use Rattle.table.specs.declared.tag.Timing.{Timing}
@@ -91,11 +91,12 @@ with_description x d = record {
   published = x.published;
 }
 
--- the same grace, the tier `after` following
+-- a grace to the same deadline, 0 where there was none, the tier `after` following
 abbrev pub followed : Option Grace → ℕ → Option Grace
-followed None after = None
+followed None after = Some (record { deadline = f0; after = after })
 followed (Some g) after = Some (record { deadline = g.deadline; after = after })
 
+-- in grace, whether or not it was
 abbrev pub with_after : Tag → ℕ → Tag
 with_after x after = with_grace x (followed x.grace after)
 

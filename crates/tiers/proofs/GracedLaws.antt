@@ -12,7 +12,7 @@ use lib.Seq.{get_or-set_same, get_or-set_other}
 use Rattle.std.specs.Prelude.{is_some, Some, Option, None}
 use Rattle.lists.specs.Keep.{count, Below}
 use Rattle.lists.proofs.KeepLaws.{count-append, count-without, count-without_other}
-use Rattle.lists.proofs.CountLaws.{below_counts, length_fewer}
+use Rattle.lists.proofs.CountLaws.{below_counts, length_few, length_fewer}
 use Rattle.table.specs.declared.tag.Grace.{Grace}
 use Rattle.tags.specs.Lists.{pushed}
 use Rattle.tags.proofs.ListLaws.{pushed_more}
@@ -45,6 +45,10 @@ module _ (T : Table) (g : Graced T) where
 
   pub graces-below : Below (length T.tags) T.graces
   graces-below = below_counts (length T.tags) T.graces (λ k h. g.once k ∙ ap (λ (x : Tag). cond (is_some x.grace) 1 0) (get_or-eq_default T.tags fresh_tag h))
+
+  -- no more tags are in grace than there are
+  pub graces_few : length T.graces ≤ length T.tags
+  graces_few = length_few (length T.tags) T.graces graces-below graces_once
 
   module _ (k : ℕ) (h : k < length T.tags) where
     abbrev ended : List ℕ
@@ -108,11 +112,11 @@ module _ (T : Table) (g : Graced T) where
     pub graced_change : (after : ℕ) → (is_some (tag_at T k).grace) ≡ true → Graced (change_grace T k after)
     graced_change after on =
         let x = with_after (tag_at T k) after in
-        record { once = replaced x T.graces (g.once k ∙ ap (λ (b : Bool). cond b 1 0) (sym (still_some (tag_at T k).grace))) (λ j d. refl); enough = rw (length-set T.tags k x) g.enough }
+        record { once = replaced x T.graces (g.once k ∙ ap (λ (b : Bool). cond b 1 0) (on ∙ sym (now_some (tag_at T k).grace))) (λ j d. refl); enough = rw (length-set T.tags k x) g.enough }
       where
-        still_some : (h : Option Grace) → is_some (followed h after) ≡ is_some h
-        still_some None = refl
-        still_some (Some h) = refl
+        now_some : (h : Option Grace) → is_some (followed h after) ≡ true
+        now_some None = refl
+        now_some (Some h) = refl
 
     -- Rule 5: a tier call.
     pub graced_tier : (tier : ℕ) (grace clock : Float) → Graced (set_tier T k tier grace clock)

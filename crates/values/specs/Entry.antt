@@ -38,9 +38,10 @@ abbrev pub result_of : Value → Option TagError → TagResult
 result_of v None = Ok v
 result_of v (Some e) = Err e
 
--- Rule 2: NotFound and Access are missing; every other kind is bad.
-abbrev pub quality_of : TagError → Quality
-quality_of e = quality_of_kind e.kind
+-- Rule 2: no error is good; NotFound and Access are missing; every other kind is bad.
+abbrev pub quality_of : Option TagError → Quality
+quality_of None = Good
+quality_of (Some e) = quality_of_kind e.kind
 
 -- The value that an entry holds, null if there is no entry.
 abbrev pub kept : Option Entry → Value
@@ -58,7 +59,7 @@ failed_value Stale old = kept old
 -- Rule 2: the entry that a reading at the wall time t makes of the cached one. No error is good, and carries its value (none is null).
 abbrev pub merged : Option Entry → TagResult → ℤ → Entry
 merged old (Ok v) t = record { value = v; quality = Good; t = t; error = None }
-merged old (Err e) t = record { value = failed_value (quality_of e) old; quality = quality_of e; t = t; error = Some e }
+merged old (Err e) t = record { value = failed_value (quality_of (Some e)) old; quality = quality_of (Some e); t = t; error = Some e }
 
 -- Rule 2: `same` compares value, quality and error, and not the time.
 abbrev pub same_entry : Entry → Entry → Bool

@@ -43,13 +43,16 @@ pub fn is_good(q: Quality) -> bool
     matches!(q, Quality::Good)
 }
 
-// The quality that an error means.
-fn quality_of(e: TagError) -> Quality
+// The quality that an error means; without one it is good.
+pub fn quality_of(e: Option<TagError>) -> Quality
     ensures { result ≡ quality_of e }
 {
-    match e.kind {
-        ErrorKind::NotFound | ErrorKind::Access => Quality::Missing,
-        ErrorKind::Other(_) => Quality::Bad,
+    match e {
+        None => Quality::Good,
+        Some(e) => match e.kind {
+            ErrorKind::NotFound | ErrorKind::Access => Quality::Missing,
+            ErrorKind::Other(_) => Quality::Bad,
+        },
     }
 }
 
@@ -85,7 +88,7 @@ pub fn merge(old: Option<Entry>, res: TagResult, t: i64) -> Entry
             error: None,
         },
         Err(e) => {
-            let quality = quality_of(e);
+            let quality = quality_of(Some(e));
             Entry {
                 value: failed_value(quality, old),
                 quality,

@@ -10,5 +10,5 @@ use run::Watch;
 use std::io;
 
 fn main(rt: HostRuntime) -> io::Result<()> {
-    Watch::new(rt.alloc())?.run(&rt)
+    Watch::new().run(&rt)
 }

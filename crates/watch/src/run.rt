@@ -8,7 +8,6 @@ use heads::options::Options;
 use lent::changes::CHANGE;
 use names::directory::{Directory, MAX_NAMES};
 use replies::reply::Reply;
-use std::alloc::{AllocError, Global};
 use std::{io, str};
 use step_checks::answer::Kind;
 
@@ -25,23 +24,24 @@ const SETTINGS: [u8; 128] = [0; 128];
 // Room for a change of every name that a directory can have.
 const LIST: usize = MAX_NAMES * CHANGE;
 
-// An engine with its host, the list that its steps fill, and the records that are read of it.
+// An engine with its host, the list that its steps fill, and the records that are read of it: arrays, so that no heap is
+// needed.
 #[derive(Drop)]
 pub struct Watch {
-    mem: Vec<u8>,
+    mem: [u8; MEMORY],
     host: Host,
-    out: Vec<u8>,
-    run: Vec<Change>,
+    out: [u8; LIST],
+    run: [Change; MAX_NAMES],
 }
 
 impl Watch {
-    pub fn new(alloc: Global) -> Result<Watch, AllocError> {
-        Ok(Watch {
-            mem: vec![in alloc; 0u8; MEMORY]?,
+    pub fn new() -> Watch {
+        Watch {
+            mem: [0; MEMORY],
             host: Host::default(),
-            out: vec![in alloc; 0u8; LIST]?,
-            run: vec![in alloc; Change::default(); MAX_NAMES]?,
-        })
+            out: [0; LIST],
+            run: [Change::default(); MAX_NAMES],
+        }
     }
 
     // The engine is created, and each tag enters the first tier; the number of a refusal, or 0.

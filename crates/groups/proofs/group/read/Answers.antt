@@ -1,7 +1,10 @@
-use mathlib.Core.Path.{refl}
 use Rattle.groups.specs.Groups.{group_read}
 use Rattle.groups.proofs.group.read.Goals as goal
 
-pub returns : goal.returns
+pub returns-then-first : goal.returns-then-first
 unfolding group_read
-returns c = refl
+returns-then-first c = rw c.if-first.true
+
+pub returns-else-first : goal.returns-else-first
+unfolding group_read
+returns-else-first c = rw c.if-first.false
